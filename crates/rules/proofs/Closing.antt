@@ -1,5 +1,5 @@
 -- Closing a set of nodes: what a round adds, and what the closed set holds.
-use mathlib.Core.Path.{_≡_, refl, sym, subst}
+use mathlib.Core.Path.{_≡_, refl, subst}
 use mathlib.Core.Logic.{⊎-elim}
 use mathlib.Core.Bool.{Bool, true, false, _&&_}
 use mathlib.Core.List.{List, [], _∷_, List·Memᴰ·head as first, List·Memᴰ·tail as later}
@@ -29,10 +29,16 @@ module _ (c : Kind → Bool) (m : ℕ) where
   abbrev taken : Edge → Bool
   taken x = c (x .on) && has m (x .from)
 
+  -- a statement about one edge, in its two cases
+  across-case : (C : ℕ → Type 0) (x : Edge) (xs : List Edge) (acc : ℕ) → (T (taken x) → C (across c xs m (with acc (x .to))))
+      → ((T (taken x) → ⊥) → C (across c xs m acc)) → C (across c (x ∷ xs) m acc)
+  across-case C x xs acc = by-test (taken x) (λ b. C (elim b [ true ↦ across c xs m (with acc (x .to)) | false ↦ across c xs m acc ]))
+
   -- what holds of a set, and still does when a target is added, holds of what is across
-  across-by : (C : ℕ → Type 0) (es : List Edge) (acc : ℕ) → All (λ x. T (taken x) → (a : ℕ) → C a → C (with a (x .to))) es → C acc → C (across c es m acc)
+  across-by : (C : ℕ → Type 0) (es : List Edge) (acc : ℕ) → All (λ x. T (taken x) → (a : ℕ) → C a → C (with a (x .to))) es
+      → C acc → C (across c es m acc)
   across-by C [] acc adds h = h
-  across-by C (x ∷ xs) acc adds h = by-test (taken x) (λ b. C (elim b [ true ↦ across c xs m (with acc (x .to)) | false ↦ across c xs m acc ]))
+  across-by C (x ∷ xs) acc adds h = across-case C x xs acc
       (λ t. across-by C xs (with acc (x .to)) (λ y g. adds y (later g)) (adds x (first refl) t acc h)) (λ n. across-by C xs acc (λ y g. adds y (later g)) h)
 
   across-keeps : (es : List Edge) (acc j : ℕ) → T (has acc j) → T (has (across c es m acc) j)
@@ -46,22 +52,24 @@ module _ (c : Kind → Bool) (m : ℕ) where
 
   -- the targets are across
   pub across-adds : (es : List Edge) (acc : ℕ) (x : Edge) → x ∈ es → T (c (x .on)) → T (has m (x .from)) → T (has (across c es m acc) (x .to))
-  across-adds es acc x (first {x = y} {xs} e) hc hm = by-test (taken y) (λ b. T (has (elim b [ true ↦ across c xs m (with acc (y .to)) | false ↦ across c xs m acc ]) (x .to)))
+  across-adds es acc x (first {x = y} {xs} e) hc hm = across-case (λ z. T (has z (x .to))) y xs acc
       (λ t. across-keeps xs (with acc (y .to)) (x .to) (rw e (with-has acc (y .to)))) (λ n. absurd (n (rw (← e) (both (c (x .on)) (has m (x .from)) hc hm))))
-  across-adds es acc x (later {x = y} {xs} h) hc hm = by-test (taken y) (λ b. T (has (elim b [ true ↦ across c xs m (with acc (y .to)) | false ↦ across c xs m acc ]) (x .to)))
+  across-adds es acc x (later {x = y} {xs} h) hc hm = across-case (λ z. T (has z (x .to))) y xs acc
       (λ t. across-adds xs (with acc (y .to)) x h hc hm) (λ n. across-adds xs acc x h hc hm)
 
   -- and nothing else but what was there
   pub across-ind : (C : ℕ → Type 0) (es : List Edge) (acc : ℕ) → All (λ x. T (c (x .on)) → T (has m (x .from)) → C (x .to)) es
       → ((v : ℕ) → T (has acc v) → C v) → (v : ℕ) → T (has (across c es m acc) v) → C v
   across-ind C es acc targets = across-by (λ z. (v : ℕ) → T (has z v) → C v) es acc
-      (λ x h t a old v g. ⊎-elim (λ e. subst C (sym e) (targets x h (both-left (c (x .on)) (has m (x .from)) t) (both-right (c (x .on)) (has m (x .from)) t))) (old v) (with-only a (x .to) v g))
+      (λ x h t a old v g. ⊎-elim (λ e. rw e (targets x h (both-left (c (x .on)) (has m (x .from)) t) (both-right (c (x .on)) (has m (x .from)) t)))
+      (old v) (with-only a (x .to) v g))
 
 -- ---- rounds
 
 module _ (c : Kind → Bool) (es : List Edge) where
   -- a statement about a round, in its two cases: it was the last, or made the set greater
-  closed-case : (C : ℕ → Type 0) (f m : ℕ) → (across c es m m ≡ m → C m) → (m < across c es m m → C (closed c es f (across c es m m))) → C (closed c es (suc f) m)
+  closed-case : (C : ℕ → Type 0) (f m : ℕ) → (across c es m m ≡ m → C m) → (m < across c es m m → C (closed c es f (across c es m m)))
+      → C (closed c es (suc f) m)
   closed-case C f m last more = by-test (eqb (across c es m m) m) (λ b. C (elim b [ true ↦ m | false ↦ closed c es f (across c es m m) ]))
       (λ t. last (eqb→eq (across c es m m) m t)) (λ n. more (greater (λ e. n (eq-test (across c es m m) m e))))
     where
@@ -74,10 +82,10 @@ module _ (c : Kind → Bool) (es : List Edge) where
   closed-by C round (suc f) m h = closed-case C f m (λ e. h) (λ l. closed-by C round f (across c es m m) (round m h))
 
   -- with enough rounds nothing is left to add
-  closed-full′ : (n f m : ℕ) → All (λ x. x .to < n) es → m < 2 ^ n → 2 ^ n ≤ f + m → across c es (closed c es f m) (closed c es f m) ≡ closed c es f m
-  closed-full′ n zero m below hm hf = absurd (omega arith)
-  closed-full′ n (suc f) m below hm hf = closed-case (λ z. across c es z z ≡ z) f m (λ e. e)
-      (λ l. closed-full′ n f (across c es m m) below (across-lt c m n es m below hm) (omega arith))
+  closed-stops : (n f m : ℕ) → All (λ x. x .to < n) es → m < 2 ^ n → 2 ^ n ≤ f + m → across c es (closed c es f m) (closed c es f m) ≡ closed c es f m
+  closed-stops n zero m below hm hf = absurd (omega arith)
+  closed-stops n (suc f) m below hm hf = closed-case (λ z. across c es z z ≡ z) f m (λ e. e)
+      (λ l. closed-stops n f (across c es m m) below (across-lt c m n es m below hm) (omega arith))
 
 -- ---- the closed set
 
@@ -95,7 +103,9 @@ module _ (w : Machine) (below : Below w) (c : Kind → Bool) (m : ℕ) (small : 
   closed-lt = closed-by c (w .links) (λ z. z < 2 ^ w .count) (λ a. across-lt c a (w .count) (w .links) a below) (2 ^ w .count) m small
 
   pub closed-full : All (Carries c (λ v. T (has (closure w c m) v))) (w .links)
-  closed-full x h hc hu = subst (λ (z : ℕ). T (has z (x .to))) (closed-full′ c (w .links) (w .count) (2 ^ w .count) m below small (omega arith)) (across-adds c (closure w c m) (w .links) (closure w c m) x h hc hu)
+  closed-full x h hc hu =
+      subst (λ (z : ℕ). T (has z (x .to))) (closed-stops c (w .links) (w .count) (2 ^ w .count) m below small (omega arith))
+      (across-adds c (closure w c m) (w .links) (closure w c m) x h hc hu)
 
   -- however a set is made: if it has m, is closed, and has nothing that is not reached from m, it is the closed set
   pub closed-only : (x : ℕ) → x < 2 ^ w .count → ((v : ℕ) → T (has m v) → T (has x v)) → All (Carries c (λ v. T (has x v))) (w .links)

@@ -16,6 +16,7 @@ x ∈ es = List·Memᴰ x es
 abbrev pub All : (Edge → Type 0) → List Edge → Type 0
 All C es = (x : Edge) → x ∈ es → C x
 
+-- what is to be shown of each own edge, and of the parts' edges, so that C holds of each edge
 module _ (C : Edge → Type 0) where
   all-none : All C []
   all-none x h = absurd (List·Memᴰ·not-nil h)
@@ -39,12 +40,16 @@ module _ (C : Edge → Type 0) where
     all-joined X Y c xs ys = all-with _ _ c (all-both (X .edges b) (Y .edges (b + size X)) xs ys)
 
     pub all-forked : (X Y : Frag) → let x : ℕ = 1 + b in let y : ℕ = 1 + b + size X in let e : ℕ = 1 + b + size X + size Y in
-        C (edge b empty x) → C (edge b empty y) → C (edge (x + X .last) empty e) → C (edge (y + Y .last) empty e) → All C (X .edges x) → All C (Y .edges y) → All C (forked X Y .edges b)
-    all-forked X Y c₁ c₂ c₃ c₄ xs ys = all-with _ _ c₁ (all-with _ _ c₂ (all-with _ _ c₃ (all-with _ _ c₄ (all-both (X .edges (1 + b)) (Y .edges (1 + b + size X)) xs ys))))
+        C (edge b empty x) → C (edge b empty y) → C (edge (x + X .last) empty e) → C (edge (y + Y .last) empty e)
+        → All C (X .edges x) → All C (Y .edges y) → All C (forked X Y .edges b)
+    all-forked X Y toX toY fromX fromY xs ys =
+        all-with _ _ toX (all-with _ _ toY (all-with _ _ fromX (all-with _ _ fromY (all-both (X .edges (1 + b)) (Y .edges (1 + b + size X)) xs ys))))
 
     pub all-around : (skip back : Bool) (X : Frag) → let x : ℕ = 1 + b in let e : ℕ = 1 + b + size X in
-        C (edge b empty x) → C (edge (x + X .last) empty e) → (T skip → C (edge b empty e)) → (T back → C (edge (x + X .last) empty x)) → All C (X .edges x) → All C (around skip back X .edges b)
-    all-around skip back X c₁ c₂ c₃ c₄ xs = all-with _ _ c₁ (all-with _ _ c₂ (all-both (only skip _) _ (all-only skip _ c₃) (all-both (only back _) (X .edges (1 + b)) (all-only back _ c₄) xs)))
+        C (edge b empty x) → C (edge (x + X .last) empty e) → (T skip → C (edge b empty e)) → (T back → C (edge (x + X .last) empty x))
+        → All C (X .edges x) → All C (around skip back X .edges b)
+    all-around skip back X toX fromX skips backs xs =
+        all-with _ _ toX (all-with _ _ fromX (all-both (only skip _) _ (all-only skip _ skips) (all-both (only back _) (X .edges (1 + b)) (all-only back _ backs) xs)))
 
 -- an edge that is there only where c says so
 pub only-there : (c : Bool) (x : Edge) → (T (not c) → ⊥) → x ∈ only c x

@@ -59,12 +59,13 @@ mark-holds w r atEnd = table (has (r .nodes) (w .final)) (has (atTheEnd w r) (w 
 
 -- ---- edges that are crossed in place
 
--- those of the head row or another, before the text's end or at it
+-- at the head row or another, before the text's end or at it
 abbrev inPlace : Bool → Bool → Kind → Bool
 inPlace isHead true = elim isHead [ true ↦ orEither | false ↦ orTail ]
 inPlace isHead false = elim isHead [ true ↦ orHead | false ↦ onEmpty ]
 
-by-kind : (isHead atEnd : Bool) → (inPlace isHead atEnd empty ≡ true) × (inPlace isHead atEnd onHead ≡ isHead) × (inPlace isHead atEnd onTail ≡ atEnd) × ((B : ℕ) → inPlace isHead atEnd (onBytes B) ≡ false)
+by-kind : (isHead atEnd : Bool) → (inPlace isHead atEnd empty ≡ true) × (inPlace isHead atEnd onHead ≡ isHead)
+    × (inPlace isHead atEnd onTail ≡ atEnd) × ((B : ℕ) → inPlace isHead atEnd (onBytes B) ≡ false)
 by-kind true true = (refl, refl, refl, λ B. refl)
 by-kind true false = (refl, refl, refl, λ B. refl)
 by-kind false true = (refl, refl, refl, λ B. refl)
@@ -129,7 +130,7 @@ module _ (w : Machine) (below : Below w) (small : 1 < 2 ^ w .count) (t : List �
   abbrev atEnd : ℕ → Bool
   atEnd p = eqb p (length t)
 
-  -- what is known of the row at place p
+  -- the row at place p: the head row just at place 0, closed, and of nodes that walks reach
   record Known (p : ℕ) (r : SetRow) : Type 0 where
     head : T (r .isHead) ↔ (p ≡ 0)
     low : r .nodes < 2 ^ w .count
@@ -142,7 +143,8 @@ module _ (w : Machine) (below : Below w) (small : 1 < 2 ^ w .count) (t : List �
     head = head;
     low = closed-lt w below (inPlace isHead false) m l;
     full = closed-full w below (inPlace isHead false) m l;
-    reached = closed-ind w (inPlace isHead false) m (λ u. Walk t (w .links) 0 s u p) (λ x h c. step h (cross-place t p isHead false (x .on) (head .0) (λ f. absurd f) c)) ways;
+    reached = closed-ind w (inPlace isHead false) m (λ u. Walk t (w .links) 0 s u p)
+        (λ x h c. step h (cross-place t p isHead false (x .on) (head .0) (λ f. absurd f) c)) ways;
   }
 
   begin-known : (p : ℕ) → p ≡ s → Known p (beginRow w p)
@@ -168,7 +170,8 @@ module _ (w : Machine) (below : Below w) (small : 1 < 2 ^ w .count) (t : List �
     where
       by-length : (d : ℕ) → s + d ≤ length t → Known (s + d) (rowAt (s + d))
       by-length zero l = rw (add-zero, row-start) (begin-known s refl)
-      by-length (suc d) l = rw (add-suc, row-next (s + d) (omega arith) (omega arith)) (next-known (s + d) (rowAt (s + d)) (omega arith) (by-length d (omega arith)))
+      by-length (suc d) l =
+          rw (add-suc, row-next (s + d) (omega arith) (omega arith)) (next-known (s + d) (rowAt (s + d)) (omega arith) (by-length d (omega arith)))
 
   -- ---- the row holds the nodes that walks reach
 
@@ -181,25 +184,32 @@ module _ (w : Machine) (below : Below w) (small : 1 < 2 ^ w .count) (t : List �
   holds-full p r k true = closed-full w below (inPlace (r .isHead) true) (r .nodes) (k .low)
   holds-full p r k false = k .full
 
-  -- nodes held, at a place of the stretch
+  -- the row at place p holds node u
   Held : Rel
   Held u p = (s ≤ p) × (p ≤ length t) × T (holds w (rowAt p) (atEnd p) u)
 
   held-keeps : All (Keeps t Held) (w .links)
   unfolding Held next
-  held-keeps x h p q c k = ⊎-elim (λ y. subst (Held (x .to)) (y .0) (k .0, k .1, holds-full p (rowAt p) here (atEnd p) x h (y .1) (k .2))) (λ y. subst (Held (x .to)) (y .0) (omega arith, omega arith, moved (y .1) (y .2)))
-      (crossed t p (rowAt p .isHead) (atEnd p) (x .on) q (here .head .1) (eq-test p (length t)) c)
+  held-keeps x h p q c k = ⊎-elim stays moves (crossed t p (rowAt p .isHead) (atEnd p) (x .on) q (here .head .1) (eq-test p (length t)) c)
     where
       here : Known p (rowAt p)
       here = known p (k .0) (k .1)
+
+      stays : (p ≡ q) × T (inPlace (rowAt p .isHead) (atEnd p) (x .on)) → Held (x .to) q
+      stays y = subst (Held (x .to)) (y .0) (k .0, k .1, holds-full p (rowAt p) here (atEnd p) x h (y .1) (k .2))
 
       before : (a : Bool) → (T a → ⊥) → T (holds w (rowAt p) a (x .from)) → T (has (rowAt p .nodes) (x .from))
       before true n g = absurd (n tt)
       before false n g = g
 
-      moved : p < length t → T (onByte (getD t p 0) (x .on)) → T (holds w (rowAt (suc p)) (atEnd (suc p)) (x .to))
-      moved l g = holds-more w (rowAt (suc p)) (atEnd (suc p)) (x .to) (rw (row-next p (k .0) l) (closed-keeps w onEmpty _ (x .to)
-          (across-adds (onByte (getD t p 0)) (rowAt p .nodes) (w .links) 0 x h g (before (atEnd p) (λ n. omega (arith, eqb→eq p (length t) n)) (k .2)))))
+      moves : (suc p ≡ q) × (p < length t) × T (onByte (getD t p 0) (x .on)) → Held (x .to) q
+      moves y = subst (Held (x .to)) (y .0) (
+        omega arith,
+        omega arith,
+        holds-more w (rowAt (suc p)) (atEnd (suc p)) (x .to)
+            (rw (row-next p (k .0) (y .1)) (closed-keeps w onEmpty (across (onByte (getD t p 0)) (w .links) (rowAt p .nodes) 0) (x .to)
+            (across-adds (onByte (getD t p 0)) (rowAt p .nodes) (w .links) 0 x h (y .2) (before (atEnd p) (λ n. omega (arith, eqb→eq p (length t) n)) (k .2))))),
+      )
 
   begin-held : s ≤ length t → Held 0 s
   unfolding Held headRow inside
@@ -209,6 +219,7 @@ module _ (w : Machine) (below : Below w) (small : 1 < 2 ^ w .count) (t : List �
       begin-has zero = closed-keeps w orHead 1 0 tt
       begin-has (suc p) = closed-keeps w onEmpty 1 0 tt
 
+  -- the row at the end of the stretch, with what is crossed at the text's end
   row-holds : (p : ℕ) → s ≤ p → p ≤ length t → (u : ℕ) → T (holds w (rowAt p) (atEnd p) u) ↔ Walk t (w .links) 0 s u p
   unfolding Held
   row-holds p sp l u = (holds-reached p (rowAt p) (known p sp l) (atEnd p) (eqb→eq p (length t)) u, λ a. along Held held-keeps a (begin-held (omega arith)) .2)
@@ -220,4 +231,5 @@ pub set-rows-right : (X : Tree) (t : List ℕ) (s e : ℕ) → s ≤ e → e ≤
 unfolding machine
 set-rows-right X t s e se le =
     Iff·trans (mark-holds (machine X) (rowAfter (machine X) (beginRow (machine X) s) (slice s e t)) (eqb e (length t)))
-    (Iff·trans (row-holds (machine X) (nodes-below X) (one-small X) t s e se le (machine X .final)) (thompson t X .sound 0 (omega arith), thompson t X .complete 0 (omega arith)))
+    (Iff·trans (row-holds (machine X) (nodes-below X) (one-small X) t s e se le (machine X .final))
+    (thompson t X .sound 0 (omega arith), thompson t X .complete 0 (omega arith)))

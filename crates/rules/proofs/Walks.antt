@@ -103,11 +103,14 @@ module _ {t : List ℕ} {es : List Edge} (u : ℕ) where
 
 module _ (t : List ℕ) (k : Kind) where
   one-sound : (b : ℕ) {v s e : ℕ} → v ≡ b + 1 → Walk t (one k .edges b) b s v e → Cross t k s e
-  one-sound b {s = s} end w = along K (all-one (Keeps t K) b k (λ p q c h. to-high (omega arith) (rw (h .low (omega arith)) c))) w (to-low (omega arith) refl) .high (omega arith)
+  one-sound b {s = s} end w = along K keeps w (to-low (omega arith) refl) .high (omega arith)
     where
       -- at the start, at the end
       K : Rel
       K = Cut b (λ u p. s ≡ p) (λ u p. Cross t k s p)
+
+      keeps : All (Keeps t K) (one k .edges b)
+      keeps = all-one (Keeps t K) b k (λ p q c h. to-high (omega arith) (rw (h .low (omega arith)) c))
 
   pub one-right : Right t (one k) (Cross t k)
   one-right = record {
@@ -124,9 +127,7 @@ Then P Q s e = (m : ℕ) × P s m × Q m e
 
 module _ {t : List ℕ} {X Y : Frag} {P Q : Rel} (xr : Right t X P) (yr : Right t Y Q) where
   joined-sound : (b : ℕ) {v s e : ℕ} → v ≡ b + (size X + Y .last) → Walk t (joined X Y .edges b) b s v e → Then P Q s e
-  joined-sound b {v} {s} {e} end w =
-      let k : From t (Y .edges y) y (P s) v e = along K keeps w (to-low (omega arith) stay) .high (omega arith) in
-      (k .0, k .1, yr .sound y (omega arith) (k .2))
+  joined-sound b {s = s} end w = let (m, p, h) = along K keeps w (to-low (omega arith) stay) .high (omega arith) in (m, p, yr .sound y (omega arith) h)
     where
       y : ℕ
       y = b + size X
@@ -219,8 +220,9 @@ module _ {t : List ℕ} {X : Frag} {P : Rel} (xr : Right t X P) (skip back : Boo
       entered : {p : ℕ} → Behind s p → K x p
       entered {p} r = to-high (omega arith) (to-low (omega arith) (p, r, stay))
 
-      left : {p : ℕ} → K (x + X .last) p → Then Behind P s p
-      left k = let h : From t (X .edges x) x (Behind s) (x + X .last) _ = k .high (omega arith) .low (omega arith) in (h .0, h .1, xr .sound x refl (h .2))
+      -- at the end of X there is one part more
+      left : {p : ℕ} → K (x + X .last) p → (k : ℕ) × (T (not back) → k ≡ 0) × Cuts P (suc k) s p
+      left k = let (m, (j, few, c), h) = k .high (omega arith) .low (omega arith) in (j, few, cuts-more P j c (xr .sound x refl h))
 
       ended : {p : ℕ} → Counted (Rounds skip back) P s p → K (x + size X) p
       ended r = to-high (omega arith) (to-high (omega arith) r)
@@ -228,9 +230,9 @@ module _ {t : List ℕ} {X : Frag} {P : Rel} (xr : Right t X P) (skip back : Boo
       keeps : All (Keeps t K) (around skip back X .edges b)
       keeps = all-around (Keeps t K) b skip back X
           (on-empty K (λ p k. entered (0, (λ n. refl), k .low (omega arith))))
-          (on-empty K (λ p k. let h : Then Behind P s p = left k in ended (suc (h .1 .0), ((λ n. omega arith), λ n. omega (arith, h .1 .1 n)), cuts-more P (h .1 .0) (h .1 .2) (h .2))))
+          (on-empty K (λ p k. let (j, few, c) = left k in ended (suc j, ((λ n. omega arith), λ n. omega (arith, few n)), c)))
           (λ y. on-empty K (λ p k. ended (0, ((λ n. absurd (T-not skip n y)), λ n. omega arith), k .low (omega arith))))
-          (λ y. on-empty K (λ p k. let h : Then Behind P s p = left k in entered (suc (h .1 .0), (λ n. absurd (T-not back n y)), cuts-more P (h .1 .0) (h .1 .2) (h .2))))
+          (λ y. on-empty K (λ p k. let (j, few, c) = left k in entered (suc j, (λ n. absurd (T-not back n y)), c)))
           (keeps-high xr x (omega arith) (keeps-low xr x (omega arith) (from-keeps x (Behind s))))
 
   around-complete : (b : ℕ) {s e : ℕ} (k : ℕ) → Rounds skip back k → Cuts P k s e → Walk t (around skip back X .edges b) b s (1 + b + size X) e
@@ -253,7 +255,8 @@ module _ {t : List ℕ} {X : Frag} {P : Rel} (xr : Right t X P) (skip back : Boo
 
   pub around-right : Right t (around skip back X) (Counted (Rounds skip back) P)
   around-right = record {
-    inner = λ b. all-around (Inner b (b + (1 + size X))) b skip back X (omega arith) (omega arith) (λ h. omega arith) (λ h. omega arith) (λ x h. omega (arith, xr .inner (1 + b) x h));
+    inner = λ b. all-around (Inner b (b + (1 + size X))) b skip back X (omega arith) (omega arith) (λ h. omega arith) (λ h. omega arith)
+        (λ x h. omega (arith, xr .inner (1 + b) x h));
     sound = around-sound;
     complete = λ b end h. walk-to (omega arith) (around-complete b (h .0) (h .1) (h .2));
   }
