@@ -8,14 +8,15 @@ use native.Mathlib.Omega.{arith}
 use native.Mathlib.Nat.{add-zero, add-suc}
 use lib.Pow.{pow-pos}
 use lib.Dec.{T, eqb, eqb→eq}
-use lib.ListN.{length, getD, take}
-use lib.Seq.{slice, slice-empty, take-suc, drop-append-le, length-take-le}
+use lib.ListN.{length, getD}
+use lib.Seq.{slice, slice-empty}
 use Rattle.rules.specs.Tools.{has}
 use Rattle.rules.specs.Tree.{Tree}
 use Rattle.rules.specs.Meaning.{Match}
 use Rattle.rules.specs.Nodes.{Kind, empty, onHead, onTail, onBytes, frag}
 use Rattle.rules.specs.SetRows.{onEmpty, orHead, orTail, orEither, onByte, across, closure, SetRow, Machine, machine, inside, headRow, next, atTheEnd, markOf}
 use Rattle.rules.specs.Table.{fits}
+use Rattle.rules.proofs.Texts.{slice-more}
 use Rattle.rules.proofs.Tests.{eq-test}
 use Rattle.rules.proofs.Sets.{zero-has, one-has}
 use Rattle.rules.proofs.Edges.{All}
@@ -119,9 +120,6 @@ rowAfter-more : (w : Machine) (r : SetRow) (bs : List ℕ) (b : ℕ) → rowAfte
 unfolding rowAfter
 rowAfter-more w r [] b = refl
 rowAfter-more w r (c ∷ bs) b = rowAfter-more w (next w r c) bs b
-
-slice-more : (t : List ℕ) (s p : ℕ) → s ≤ p → p < length t → slice s (suc p) t ≡ slice s p t ++ (getD t p 0 ∷ [])
-slice-more t s p sp l = rw (take-suc t p 0) (drop-append-le s (take p t) (getD t p 0 ∷ []) (rw (length-take-le p t (omega arith)) sp))
 
 module _ (w : Machine) (below : Below w) (small : 1 < 2 ^ w .count) (t : List ℕ) (s : ℕ) where
   abbrev rowAt : ℕ → SetRow

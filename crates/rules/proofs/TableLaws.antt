@@ -1,4 +1,4 @@
--- Laws of a table: when it is well formed, where reading comes to byte by byte, and what is longest place by place.
+-- Laws of a table: when it is well formed, where reading leads, what is longest, and when a matcher refuses.
 use mathlib.Core.Path.{_≡_, refl, sym, ap, ap₂, _∙_}
 use mathlib.Core.Logic.{_↔_, _⊎_, inl, inr, ⊎-elim}
 use mathlib.Core.Bool.{Bool, true, false, _&&_, _||_, and-true, and-assoc, and-eq-true-iff}
@@ -10,13 +10,14 @@ use native.Mathlib.Omega.{arith}
 use native.Mathlib.Numerals.{add-one}
 use lib.Dec.{leb, ltb, eqb}
 use lib.ListN.{length, getD, take}
-use lib.Seq.{slice, slice-empty, length-take-le, take-suc, drop-append-le, getD-take}
+use lib.Seq.{slice, slice-empty, length-take-le, getD-take}
 use borrow.Author.Tests.{leb-true, ltb-true, eqb-true, le-leb, lt-ltb, le-ltb, eq-eqb, ne-eqb}
 use Rattle.rules.specs.Tools.{upFrom, all, kept, last}
 use Rattle.rules.specs.Sizes.{rowsMost, textMost}
 use Rattle.rules.specs.Table.{Table, cell, after, begins, fits, takes, Mark, isMark, Formed, WellFormed, wellFormed, whole, longest}
 use Rattle.rules.specs.Answers.{refusal, Answer, refused, given}
 use Rattle.rules.specs.Matchers.{checked, longestAnswer}
+use Rattle.rules.proofs.Texts.{slice-more}
 
 -- ---- all
 
@@ -95,6 +96,13 @@ module _ (w : Table) where
       leb 1 (w .count) ∷ leb (w .count) rowsMost ∷ leb (w .count) (length (w .marks)) ∷ leb (256 * w .count) (length (w .cells))
       ∷ isRow (w .head) ∷ all isRow (take (256 * w .count) (w .cells)) ∷ all isMark (take (w .count) (w .marks)) ∷ []
 
+  -- where the sizes and the head are right, the cells and the marks decide
+  pub formed-rest : 1 ≤ w .count → w .count ≤ rowsMost → w .count ≤ length (w .marks) → 256 * w .count ≤ length (w .cells) → w .head < w .count
+      → all isRow (take (256 * w .count) (w .cells)) && all isMark (take (w .count) (w .marks)) ≡ wellFormed w
+  unfolding wellFormed
+  formed-rest a b d e f =
+      simp (le-leb 1 (w .count) a, le-leb (w .count) rowsMost b, le-leb (w .count) (length (w .marks)) d, le-leb (256 * w .count) (length (w .cells)) e, lt-ltb (w .head) (w .count) f)
+
   pub well-formed-test : (wellFormed w ≡ true) ↔ WellFormed w
   unfolding wellFormed
   well-formed-test = (holds, passes)
@@ -119,15 +127,10 @@ module _ (w : Table) where
       passes : WellFormed w → wellFormed w ≡ true
       passes g =
           let f : Formed w = g .formed in
-          simp (
-            le-leb 1 (w .count) (f .some-row),
-            le-leb (w .count) rowsMost (g .few-rows),
-            le-leb (w .count) (length (w .marks)) (f .marks-long),
-            le-leb (256 * w .count) (length (w .cells)) (f .cells-long),
-            lt-ltb (w .head) (w .count) (f .head-row),
-            all-front-by isRow (w .cells) 0 (256 * w .count) (f .cells-long) (λ i l. lt-ltb (getD (w .cells) i 0) (w .count) (f .cells-rows i l)),
-            all-front-by isMark (w .marks) 0 (w .count) (f .marks-long) (λ q l. mark-test (getD (w .marks) q 0) .1 (f .marks-good q l)),
-          )
+          sym (formed-rest (f .some-row) (g .few-rows) (f .marks-long) (f .cells-long) (f .head-row))
+          ∙ ap₂ {C = Bool} _&&_
+          (all-front-by isRow (w .cells) 0 (256 * w .count) (f .cells-long) (λ i l. lt-ltb (getD (w .cells) i 0) (w .count) (f .cells-rows i l)))
+          (all-front-by isMark (w .marks) 0 (w .count) (f .marks-long) (λ q l. mark-test (getD (w .marks) q 0) .1 (f .marks-good q l)))
 
   pub not-formed : (WellFormed w → ⊥) → false ≡ wellFormed w
   not-formed f = go (wellFormed w) refl
@@ -136,17 +139,7 @@ module _ (w : Table) where
       go true e = absurd (f (well-formed-test .0 e))
       go false e = sym e
 
-  -- where the sizes and the head are right, the cells and the marks decide
-  pub formed-rest : 1 ≤ w .count → w .count ≤ rowsMost → w .count ≤ length (w .marks) → 256 * w .count ≤ length (w .cells) → w .head < w .count
-      → all isRow (take (256 * w .count) (w .cells)) && all isMark (take (w .count) (w .marks)) ≡ wellFormed w
-  unfolding wellFormed
-  formed-rest a b d e f =
-      simp (le-leb 1 (w .count) a, le-leb (w .count) rowsMost b, le-leb (w .count) (length (w .marks)) d, le-leb (256 * w .count) (length (w .cells)) e, lt-ltb (w .head) (w .count) f)
-
 -- ---- reading on
-
-slice-more : (t : List ℕ) (s e : ℕ) → s ≤ e → e < length t → slice s (e + 1) t ≡ slice s e t ++ (getD t e 0 ∷ [])
-slice-more t s e a b = rw (add-one, take-suc t e 0, drop-append-le s (take e t) (getD t e 0 ∷ []) (rw (length-take-le e t (omega arith)) a))
 
 pub after-append : (w : Table) (q : ℕ) (xs ys : List ℕ) → after w q (xs ++ ys) ≡ after w (after w q xs) ys
 after-append w q [] ys = refl
@@ -159,6 +152,13 @@ pub begins-later : (w : Table) (s : ℕ) → (s ≡ 0 → ⊥) → 0 ≡ begins 
 begins-later w zero n = absurd (n refl)
 begins-later w (suc s) n = refl
 
+begins-row : {w : Table} → Formed w → (s : ℕ) → begins w s < w .count
+begins-row good zero = good .head-row
+begins-row good (suc s) = good .some-row
+
+slice-on : (t : List ℕ) (s p : ℕ) → s ≤ p → p < length t → slice s (p + 1) t ≡ slice s p t ++ (getD t p 0 ∷ [])
+slice-on t s p a b = rw add-one (slice-more t s p a b)
+
 -- the text from s has been read up to p, which led to row q
 pub record Read (w : Table) (t : List ℕ) (s p q : ℕ) : Type 0 where
   pub from : s ≤ p
@@ -167,15 +167,11 @@ pub record Read (w : Table) (t : List ℕ) (s p q : ℕ) : Type 0 where
   pub led : q ≡ after w (begins w s) (slice s p t)
 
 module _ {w : Table} (good : Formed w) (t : List ℕ) (s : ℕ) where
-  begins-row : (s : ℕ) → begins w s < w .count
-  begins-row zero = good .head-row
-  begins-row (suc s) = good .some-row
-
   pub read-none : {q : ℕ} → s ≤ length t → q ≡ begins w s → Read w t s s q
   read-none h e = record {
     from = omega arith;
     within = h;
-    row = omega (arith, begins-row s);
+    row = omega (arith, begins-row good s);
     led = e ∙ sym (ap (after w (begins w s)) (slice-empty s t));
   }
 
@@ -185,10 +181,17 @@ module _ {w : Table} (good : Formed w) (t : List ℕ) (s : ℕ) where
     within = omega arith;
     row = omega (arith, good .cells-rows (256 * q + getD t p 0) (omega arith));
     led = e ∙ ap (λ (q : ℕ). cell w q (getD t p 0)) (r .led)
-        ∙ sym (ap (after w (begins w s)) (slice-more t s p (r .from) h) ∙ after-append w (begins w s) (slice s p t) (getD t p 0 ∷ []));
+        ∙ sym (ap (after w (begins w s)) (slice-on t s p (r .from) h) ∙ after-append w (begins w s) (slice s p t) (getD t p 0 ∷ []));
   }
 
 module _ {w : Table} {t : List ℕ} {s p q : ℕ} (r : Read w t s p q) where
+  -- the row's mark and its cells are there
+  pub read-mark : Formed w → q < length (w .marks)
+  read-mark good = omega arith
+
+  pub read-cells : Formed w → 256 * q + 256 ≤ length (w .cells)
+  read-cells good = omega arith
+
   -- a stretch that has been read is taken by its row's mark
   pub read-inside : p < length t → takes w t s p ≡ fits (getD (w .marks) q 0) false
   unfolding takes
@@ -204,7 +207,7 @@ read-whole {w} {t} {p} r h = let e : length t ≡ p = omega arith in ap (takes w
 
 -- ---- longest
 
-upFrom-more : (n c : ℕ) → upFrom n (suc c) ≡ upFrom n c ++ ((n + c) ∷ [])
+pub upFrom-more : (n c : ℕ) → upFrom n (suc c) ≡ upFrom n c ++ ((n + c) ∷ [])
 upFrom-more n zero = ap {B = List ℕ} (λ (x : ℕ). x ∷ []) (sym (add-zero n))
 upFrom-more n (suc c) =
     ap (λ (l : List ℕ). n ∷ l) (upFrom-more (suc n) c ∙ ap (λ (x : ℕ). upFrom (suc n) c ++ (x ∷ [])) shift)
@@ -218,7 +221,7 @@ last-snoc (y ∷ []) x = refl
 last-snoc (y ∷ z ∷ xs) x = last-snoc (z ∷ xs) x
 
 module _ (f : ℕ → Bool) where
-  kept-append : (xs ys : List ℕ) → kept f (xs ++ ys) ≡ kept f xs ++ kept f ys
+  pub kept-append : (xs ys : List ℕ) → kept f (xs ++ ys) ≡ kept f xs ++ kept f ys
   kept-append [] ys = refl
   kept-append (x ∷ xs) ys = go (f x) (kept-append xs ys)
     where
@@ -228,7 +231,7 @@ module _ (f : ℕ → Bool) where
       go false e = e
 
   -- one number more, by whether it is kept
-  kept-more : (n c : ℕ) (b : Bool) → f (n + c) ≡ b → kept f (upFrom n (suc c)) ≡ kept f (upFrom n c) ++ elim b [ true ↦ (n + c) ∷ [] | false ↦ [] ]
+  pub kept-more : (n c : ℕ) (b : Bool) → f (n + c) ≡ b → kept f (upFrom n (suc c)) ≡ kept f (upFrom n c) ++ elim b [ true ↦ (n + c) ∷ [] | false ↦ [] ]
   kept-more n c b e =
       ap (kept f) (upFrom-more n c) ∙ kept-append (upFrom n c) ((n + c) ∷ [])
       ∙ ap (λ (b : Bool). kept f (upFrom n c) ++ elim b [ true ↦ (n + c) ∷ [] | false ↦ [] ]) e

@@ -7,7 +7,7 @@ use native.Mathlib.Omega.{arith}
 use borrow.Author.Tests.{eq-eqb, ne-eqb}
 use lib.Dec.{eqb}
 use lib.ListN.{length, getD, take, drop, replicate, length-append, length-replicate}
-use lib.Seq.{slice, take-at, drop-at}
+use lib.Seq.{slice, take-at, drop-at, take-suc, drop-append-le, length-take-le}
 use Rattle.rules.specs.Table.{Table, after, begins, fits, takes}
 use Rattle.rules.specs.Drawing.{Bytes}
 
@@ -75,3 +75,7 @@ module _ (s : ℕ) (bs : List ℕ) where
       tail-ok : (f : Bool) → Bytes (tailOf f)
       tail-ok true = tt
       tail-ok false = (omega arith, tt)
+
+-- a stretch read one byte further
+pub slice-more : (t : List ℕ) (s p : ℕ) → s ≤ p → p < length t → slice s (suc p) t ≡ slice s p t ++ (getD t p 0 ∷ [])
+slice-more t s p sp l = rw (take-suc t p 0) (drop-append-le s (take p t) (getD t p 0 ∷ []) (rw (length-take-le p t (omega arith)) sp))

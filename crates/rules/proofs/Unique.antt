@@ -12,6 +12,7 @@ use Rattle.rules.specs.Table.{Table, cell, after, begins, fits, takes, M
 use Rattle.rules.specs.Drawing.{Bytes, Alike, Exact, Smallest, SameRows, Merged, listedBy, Numbered}
 use Rattle.rules.proofs.Tests.{both-ways}
 use Rattle.rules.proofs.Pigeon.{pigeon, pigeon-but}
+use Rattle.rules.proofs.TableLaws.{after-append}
 use Rattle.rules.proofs.Texts.{bytes-on, text, end-text, takes-text, bytes-text}
 
 -- ---- rows that nothing tells apart
@@ -25,10 +26,6 @@ same-begins w v like s z hz f =
 same-after : (w v : Table) (p q : ℕ) → SameRows w p v q → (xs : List ℕ) → Bytes xs → SameRows w (after w p xs) v (after v q xs)
 same-after w v p q h [] hx = h
 same-after w v p q h (b ∷ xs) hx = same-after w v (cell w p b) (cell v q b) (λ z hz f. h (b ∷ z) (hx .0, hz) f) xs (hx .1)
-
-after-on : (v : Table) (xs ys : List ℕ) (q : ℕ) → after v q (xs ++ ys) ≡ after v (after v q xs) ys
-after-on v [] ys q = refl
-after-on v (x ∷ xs) ys q = after-on v xs ys (cell v q x)
 
 -- a mark is known by what it fits
 known : Bool → Bool → ℕ
@@ -94,7 +91,7 @@ module _ (w : Table) (good : Formed w) (numbered : Numbered w) where
   Reach q = (s : ℕ) × (z : List ℕ) × Bytes z × (after w (begins w s) z ≡ q)
 
   reach-on : (q b : ℕ) → b < 256 → Reach q → Reach (cell w q b)
-  reach-on q b l x = (x .0, x .1 ++ (b ∷ []), bytes-on (x .1) (b ∷ []) (x .2) (l, tt), after-on w (x .1) (b ∷ []) (begins w (x .0)) ∙ ap {B = ℕ} (λ (y : ℕ). cell w y b) (x .3))
+  reach-on q b l x = (x .0, x .1 ++ (b ∷ []), bytes-on (x .1) (b ∷ []) (x .2) (l, tt), after-append w (begins w (x .0)) (x .1) (b ∷ []) ∙ ap {B = ℕ} (λ (y : ℕ). cell w y b) (x .3))
 
   reach : (i q : ℕ) → i ≤ 256 * w .count → q < listedBy w i → Reach q
   reach zero q l h = go (ℕ-discrete q (w .head))

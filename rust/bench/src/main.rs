@@ -1,0 +1,128 @@
+//! The proved matchers beside the same work in plain Rust, in one run: a ratio a line.
+use jorvimest::Table;
+use std::hint::black_box;
+use std::time::Instant;
+
+/// A table check that runs over many cells at once.
+#[inline(never)]
+fn plain_check(t: &Table) -> bool {
+    let rows = t.rows as usize;
+    if rows < 1
+        || 1024 < rows
+        || t.marks.len() < rows
+        || t.cells.len() < 256 * rows
+        || t.rows <= t.head
+    {
+        return false;
+    }
+    let mut good = true;
+    for &c in &t.cells[..256 * rows] {
+        good &= c < t.rows;
+    }
+    for &m in &t.marks[..rows] {
+        good &= m == 0 || m == 2 || m == 3;
+    }
+    good
+}
+
+/// One load a byte, no bounds checks.
+#[inline(never)]
+fn plain_whole(t: &Table, text: &[u8]) -> bool {
+    let mut q = t.head;
+    for &b in text {
+        q = unsafe { *t.cells.get_unchecked(256 * q as usize + b as usize) };
+    }
+    let mark = unsafe { *t.marks.get_unchecked(q as usize) };
+    mark == 3 || mark == 2
+}
+
+#[inline(never)]
+fn plain_longest(t: &Table, text: &[u8], start: usize) -> Option<u32> {
+    let mut q = if start == 0 { t.head } else { 0 };
+    let mut best = None;
+    for p in start..text.len() {
+        unsafe {
+            if *t.marks.get_unchecked(q as usize) == 3 {
+                best = Some(p as u32);
+            }
+            q = *t
+                .cells
+                .get_unchecked(256 * q as usize + *text.get_unchecked(p) as usize);
+        }
+    }
+    let mark = unsafe { *t.marks.get_unchecked(q as usize) };
+    if mark == 3 || mark == 2 {
+        best = Some(text.len() as u32);
+    }
+    best
+}
+
+/// The least of many times, taken in turn so that both see the same machine.
+fn race(name: &str, mut proved: impl FnMut(), mut plain: impl FnMut()) {
+    let time = |f: &mut dyn FnMut()| {
+        let t = Instant::now();
+        f();
+        t.elapsed().as_secs_f64()
+    };
+    let (mut a, mut b) = (f64::MAX, f64::MAX);
+    for _ in 0..60 {
+        a = a.min(time(&mut proved));
+        b = b.min(time(&mut plain));
+    }
+    println!(
+        "{name:42} {:10.1} us {:10.1} us  ratio {:.3}",
+        a * 1e6,
+        b * 1e6,
+        a / b
+    );
+}
+
+fn main() {
+    let mut seed = 88172645463325252u64;
+    let mut random = move || {
+        seed ^= seed << 13;
+        seed ^= seed >> 7;
+        seed ^= seed << 17;
+        seed
+    };
+    println!("{:42} {:>13} {:>13}", "", "proved", "plain Rust");
+    for rows in [5u16, 64, 768] {
+        let cells: Vec<u16> = (0..256 * rows as usize)
+            .map(|_| (random() % rows as u64) as u16)
+            .collect();
+        let marks: Vec<u8> = (0..rows)
+            .map(|_| [0, 0, 0, 2, 3][(random() % 5) as usize])
+            .collect();
+        let text: Vec<u8> = (0..1048576).map(|_| random() as u8).collect();
+        let t = Table {
+            rows,
+            head: 1,
+            cells: &cells,
+            marks: &marks,
+        };
+        assert!(t.well_formed() && plain_check(&t));
+        assert_eq!(t.whole(&text), Ok(plain_whole(&t, &text)));
+        race(
+            &format!("table check, {rows} rows, 100 times"),
+            || (0..100).for_each(|_| assert!(black_box(&t).well_formed())),
+            || (0..100).for_each(|_| assert!(plain_check(black_box(&t)))),
+        );
+        // The proved matchers check the table too; the plain loops do not.
+        race(
+            &format!("whole, {rows} rows, 1 MiB"),
+            || _ = black_box(black_box(&t).whole(&text)),
+            || _ = black_box(plain_whole(black_box(&t), &text)),
+        );
+        for start in [0u32, 1] {
+            assert_eq!(
+                t.longest(&text, start),
+                Ok(plain_longest(&t, &text, start as usize))
+            );
+            race(
+                &format!("longest from {start}, {rows} rows, 1 MiB"),
+                || _ = black_box(black_box(&t).longest(&text, start)),
+                || _ = black_box(plain_longest(black_box(&t), &text, start as usize)),
+            );
+        }
+    }
+}

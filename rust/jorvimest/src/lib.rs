@@ -1,0 +1,127 @@
+//! The proved matchers, as Rust calls them.
+
+/// A table as it is lent: any numbers and any lengths.
+#[derive(Clone, Copy)]
+pub struct Table<'a> {
+    pub rows: u16,
+    pub head: u16,
+    pub cells: &'a [u16],
+    pub marks: &'a [u8],
+}
+
+/// A refusal by its number.
+#[derive(Clone, Copy, Debug, PartialEq, Eq)]
+pub struct Refused(pub u32);
+
+mod linked {
+    extern "C" {
+        pub fn jorvimest_well_formed(
+            rows: u16,
+            head: u16,
+            cells: *const u16,
+            cell_count: usize,
+            marks: *const u8,
+            mark_count: usize,
+        ) -> bool;
+        pub fn jorvimest_whole(
+            rows: u16,
+            head: u16,
+            cells: *const u16,
+            cell_count: usize,
+            marks: *const u8,
+            mark_count: usize,
+            text: *const u8,
+            length: usize,
+        ) -> u32;
+        pub fn jorvimest_longest(
+            rows: u16,
+            head: u16,
+            cells: *const u16,
+            cell_count: usize,
+            marks: *const u8,
+            mark_count: usize,
+            text: *const u8,
+            length: usize,
+            start: u32,
+            end: *mut u32,
+        ) -> u32;
+    }
+}
+
+impl Table<'_> {
+    pub fn well_formed(&self) -> bool {
+        let Table {
+            rows,
+            head,
+            cells,
+            marks,
+        } = *self;
+        unsafe {
+            linked::jorvimest_well_formed(
+                rows,
+                head,
+                cells.as_ptr(),
+                cells.len(),
+                marks.as_ptr(),
+                marks.len(),
+            )
+        }
+    }
+
+    /// Whether the whole text matches.
+    pub fn whole(&self, text: &[u8]) -> Result<bool, Refused> {
+        let Table {
+            rows,
+            head,
+            cells,
+            marks,
+        } = *self;
+        let code = unsafe {
+            linked::jorvimest_whole(
+                rows,
+                head,
+                cells.as_ptr(),
+                cells.len(),
+                marks.as_ptr(),
+                marks.len(),
+                text.as_ptr(),
+                text.len(),
+            )
+        };
+        match code {
+            0 => Ok(true),
+            1 => Ok(false),
+            n => Err(Refused(n)),
+        }
+    }
+
+    /// The longest end of a match from the start.
+    pub fn longest(&self, text: &[u8], start: u32) -> Result<Option<u32>, Refused> {
+        let Table {
+            rows,
+            head,
+            cells,
+            marks,
+        } = *self;
+        let mut end = 0;
+        let code = unsafe {
+            linked::jorvimest_longest(
+                rows,
+                head,
+                cells.as_ptr(),
+                cells.len(),
+                marks.as_ptr(),
+                marks.len(),
+                text.as_ptr(),
+                text.len(),
+                start,
+                &mut end,
+            )
+        };
+        match code {
+            0 => Ok(Some(end)),
+            1 => Ok(None),
+            n => Err(Refused(n)),
+        }
+    }
+}
