@@ -1,0 +1,67 @@
+//! Random tables, some of them damaged, and short texts over few letters.
+use crate::Random;
+use jorvimest::Table;
+use paper::find::Lent;
+
+/// A table of few rows most of the time, so that matches end, go on and begin again; with something past it, or damaged.
+struct Made {
+    rows: u16,
+    head: u16,
+    cells: Vec<u16>,
+    marks: Vec<u8>,
+}
+
+fn table(random: &mut Random) -> Made {
+    let rows = match random.below(50) {
+        0 => 1024,
+        1 => 1 + random.below(1024) as u16,
+        _ => 1 + random.below(12) as u16,
+    };
+    let past = random.below(3) as usize;
+    let mut made = Made {
+        rows,
+        head: random.below(rows as u64) as u16,
+        cells: (0..256 * rows as usize + past).map(|_| random.below(rows as u64) as u16).collect(),
+        marks: (0..rows as usize + past).map(|_| random.one_of(&[0, 0, 0, 2, 3])).collect(),
+    };
+    match random.below(12) {
+        0 => made.rows = random.one_of(&[0, 1025, 65535, rows + 1]),
+        1 => made.head = random.one_of(&[rows, 65535]),
+        2 => {
+            let i = random.below(made.cells.len() as u64) as usize;
+            made.cells[i] = random.one_of(&[rows, rows + 1, 65535]);
+        }
+        3 => {
+            let i = random.below(made.marks.len() as u64) as usize;
+            made.marks[i] = random.one_of(&[1, 4, 5, 255]);
+        }
+        4 => made.cells.truncate(random.below(made.cells.len() as u64) as usize),
+        5 => made.marks.truncate(random.below(made.marks.len() as u64) as usize),
+        _ => (),
+    }
+    made
+}
+
+/// Compares every matcher on so many tables and texts; how many were refused, and how many had a longest end.
+pub fn compare(cases: u32, seed: u64) -> (u32, u32) {
+    let mut random = Random::new(seed);
+    let (mut refused, mut found) = (0, 0);
+    for case in 0..cases {
+        let made = table(&mut random);
+        let length = if random.below(20_000) == 0 { 1_048_577 } else { random.below(20) as usize };
+        let letters = 1 + random.below(4);
+        let text: Vec<u8> = (0..length).map(|_| (97 + random.below(letters)) as u8).collect();
+        let start = random.below(length as u64 + 3) as u32;
+
+        let proved = Table { rows: made.rows, head: made.head, cells: &made.cells, marks: &made.marks };
+        let paper = Lent { rows: made.rows as usize, head: made.head as usize, cells: &made.cells, marks: &made.marks };
+        let number = |(number, _)| number;
+        assert_eq!(proved.well_formed(), paper.whole(&[]).is_ok(), "seed {seed}, case {case}");
+        assert_eq!(proved.whole(&text).map_err(|r| r.0), paper.whole(&text).map_err(number), "seed {seed}, case {case}");
+        let longest = paper.longest(&text, start).map_err(number);
+        assert_eq!(proved.longest(&text, start).map_err(|r| r.0), longest, "seed {seed}, case {case}");
+        refused += longest.is_err() as u32;
+        found += matches!(longest, Ok(Some(_))) as u32;
+    }
+    (refused, found)
+}

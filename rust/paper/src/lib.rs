@@ -1,0 +1,51 @@
+//! The house rules once more, written from the paper alone and for clarity only: what the proved library is compared with.
+//! Nothing here is shared with it, and where there are several methods this takes another one.
+
+pub mod draw;
+pub mod find;
+pub mod meaning;
+pub mod nodes;
+pub mod pattern;
+
+/// A table by value.
+#[derive(Clone, Debug, PartialEq, Eq)]
+pub struct Table {
+    pub rows: usize,
+    pub head: usize,
+    pub marks: Vec<u8>,
+    pub cells: Vec<u16>,
+}
+
+/// A refusal: number and place.
+pub type Refused = (u32, u32);
+
+/// What compiling answers where the lent room is enough for `k` rows.
+pub fn compile(pattern: &[u8], k: usize) -> Result<Table, Refused> {
+    let tree = pattern::read(pattern)?;
+    let nodes = nodes::Nodes::of(&tree).ok_or((10, 0))?;
+    let rows = nodes::SetRows::of(&nodes, k.min(1024)).ok_or((11, 0))?;
+    Ok(draw::smallest(&rows))
+}
+
+/// What the listing program prints for a pattern, without the line end that it drops.
+pub fn listing(pattern: &[u8]) -> String {
+    match compile(pattern, 64) {
+        Err((n, p)) => format!("refused {n} at {p}\n"),
+        Ok(t) => {
+            let mut out = format!("rows {} head {}\n", t.rows, t.head);
+            for q in 0..t.rows {
+                out += &format!("{q} {}", t.marks[q]);
+                let row = &t.cells[256 * q..256 * q + 256];
+                let mut lo = 0;
+                for b in 0..256 {
+                    if b == 255 || row[b + 1] != row[b] {
+                        out += &format!(" {lo}-{b}>{}", row[b]);
+                        lo = b + 1;
+                    }
+                }
+                out += "\n";
+            }
+            out
+        }
+    }
+}
