@@ -2,6 +2,7 @@
 use mathlib.Core.Bool.{Bool, true, false}
 use mathlib.Core.Option.{Option, none, some}
 use Prim.Native.Nat.{ℕ}
+use lib.ListN.{getD}
 use Rattle.rules.specs.Answers.{Answer, refused, given}
 
 abbrev pub wholeCode : Answer Bool → ℕ
@@ -19,3 +20,29 @@ abbrev pub longestEnd : ℕ → Answer (Option ℕ) → ℕ
 longestEnd old (refused r) = old
 longestEnd old (given none) = old
 longestEnd old (given (some e)) = e
+
+abbrev pub firstCode : Answer (Option (ℕ × ℕ)) → ℕ
+firstCode (refused r) = r .number
+firstCode (given none) = 1
+firstCode (given (some x)) = 0
+
+-- the start and the end of the first match, or what stood there
+abbrev pub firstStart : ℕ → Answer (Option (ℕ × ℕ)) → ℕ
+firstStart old (refused r) = old
+firstStart old (given none) = old
+firstStart old (given (some x)) = x .0
+
+abbrev pub firstEnd : ℕ → Answer (Option (ℕ × ℕ)) → ℕ
+firstEnd old (refused r) = old
+firstEnd old (given none) = old
+firstEnd old (given (some x)) = x .1
+
+-- 0 for a list of starts, or a refusal's number
+abbrev pub startsCode : Answer ℕ → ℕ
+startsCode (refused r) = r .number
+startsCode (given n) = 0
+
+-- the number of starts, also where they have too few places, or what stood there
+abbrev pub startsCount : ℕ → Answer ℕ → ℕ
+startsCount old (refused r) = getD (r .values) 0 old
+startsCount old (given n) = n

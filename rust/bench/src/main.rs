@@ -58,7 +58,7 @@ fn plain_longest(t: &Table, text: &[u8], start: usize) -> Option<u32> {
 }
 
 /// The least of many times, taken in turn so that both see the same machine.
-fn race(name: &str, mut proved: impl FnMut(), mut plain: impl FnMut()) {
+pub fn race(name: &str, mut proved: impl FnMut(), mut plain: impl FnMut()) {
     let time = |f: &mut dyn FnMut()| {
         let t = Instant::now();
         f();
@@ -77,7 +77,14 @@ fn race(name: &str, mut proved: impl FnMut(), mut plain: impl FnMut()) {
     );
 }
 
+mod finders;
+
 fn main() {
+    walks();
+    finders::run();
+}
+
+fn walks() {
     let mut seed = 88172645463325252u64;
     let mut random = move || {
         seed ^= seed << 13;

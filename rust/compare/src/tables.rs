@@ -60,6 +60,22 @@ pub fn compare(cases: u32, seed: u64) -> (u32, u32) {
         assert_eq!(proved.whole(&text).map_err(|r| r.0), paper.whole(&text).map_err(number), "seed {seed}, case {case}");
         let longest = paper.longest(&text, start).map_err(number);
         assert_eq!(proved.longest(&text, start).map_err(|r| r.0), longest, "seed {seed}, case {case}");
+        assert_eq!(proved.first(&text).map_err(|r| r.0), paper.first(&text).map_err(number), "seed {seed}, case {case}");
+        let places = random.below(2 + length.min(20) as u64) as usize;
+        let before: Vec<u32> = (0..places as u32).map(|i| 7_000_000 + i).collect();
+        let mut list = before.clone();
+        let count = proved.starts(&text, &mut list).map_err(|(r, n)| (r.0, n));
+        match paper.starts(&text, places) {
+            Err(((n, _), all)) => {
+                assert_eq!(count, Err((n, all)), "seed {seed}, case {case}");
+                assert_eq!(list, before, "seed {seed}, case {case}");
+            }
+            Ok(all) => {
+                assert_eq!(count, Ok(all.len() as u32), "seed {seed}, case {case}");
+                assert_eq!(list[..all.len()], all[..], "seed {seed}, case {case}");
+                assert_eq!(list[all.len()..], before[all.len()..], "seed {seed}, case {case}");
+            }
+        }
         refused += longest.is_err() as u32;
         found += matches!(longest, Ok(Some(_))) as u32;
     }

@@ -45,6 +45,31 @@ mod linked {
             start: u32,
             end: *mut u32,
         ) -> u32;
+        pub fn jorvimest_first(
+            rows: u16,
+            head: u16,
+            cells: *const u16,
+            cell_count: usize,
+            marks: *const u8,
+            mark_count: usize,
+            text: *const u8,
+            length: usize,
+            start: *mut u32,
+            end: *mut u32,
+        ) -> u32;
+        pub fn jorvimest_starts(
+            rows: u16,
+            head: u16,
+            cells: *const u16,
+            cell_count: usize,
+            marks: *const u8,
+            mark_count: usize,
+            text: *const u8,
+            length: usize,
+            list: *mut u32,
+            places: usize,
+            count: *mut u32,
+        ) -> u32;
     }
 }
 
@@ -122,6 +147,56 @@ impl Table<'_> {
             0 => Ok(Some(end)),
             1 => Ok(None),
             n => Err(Refused(n)),
+        }
+    }
+
+    /// The first match: the least start that has any, with its longest end.
+    pub fn first(&self, text: &[u8]) -> Result<Option<(u32, u32)>, Refused> {
+        let Table { rows, head, cells, marks } = *self;
+        let (mut start, mut end) = (0, 0);
+        let code = unsafe {
+            linked::jorvimest_first(
+                rows,
+                head,
+                cells.as_ptr(),
+                cells.len(),
+                marks.as_ptr(),
+                marks.len(),
+                text.as_ptr(),
+                text.len(),
+                &mut start,
+                &mut end,
+            )
+        };
+        match code {
+            0 => Ok(Some((start, end))),
+            1 => Ok(None),
+            n => Err(Refused(n)),
+        }
+    }
+
+    /// All starts into the first places of the list; their number, which refusal 15 has too.
+    pub fn starts(&self, text: &[u8], list: &mut [u32]) -> Result<u32, (Refused, u32)> {
+        let Table { rows, head, cells, marks } = *self;
+        let mut count = 0;
+        let code = unsafe {
+            linked::jorvimest_starts(
+                rows,
+                head,
+                cells.as_ptr(),
+                cells.len(),
+                marks.as_ptr(),
+                marks.len(),
+                text.as_ptr(),
+                text.len(),
+                list.as_mut_ptr(),
+                list.len(),
+                &mut count,
+            )
+        };
+        match code {
+            0 => Ok(count),
+            n => Err((Refused(n), count)),
         }
     }
 }

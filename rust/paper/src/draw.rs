@@ -17,7 +17,7 @@ pub fn smallest(rows: &SetRows) -> Table {
         list.sort_unstable();
     }
     let mut todo = vec![];
-    let mut mark = |apart: &mut Vec<bool>, todo: &mut Vec<(usize, usize)>, p: usize, q: usize| {
+    let mark = |apart: &mut Vec<bool>, todo: &mut Vec<(usize, usize)>, p: usize, q: usize| {
         if !apart[n * p + q] {
             apart[n * p + q] = true;
             apart[n * q + p] = true;

@@ -1,0 +1,57 @@
+use borrow.Author.Needs.{needs}
+use mathlib.Core.Path.{_≡_, refl, sym, _∙_}
+use Prim.Native.Nat.{ℕ, _-_, _≤_}
+use native.Mathlib.Omega.{arith}
+use Rattle.finders.proofs.ahead.dead_row.Statement.{statement}
+use Rattle.finders.proofs.ahead.dead_row.Tie as tie
+use Rattle.finders.proofs.ahead.dead_row.Reads as reads
+use Rattle.finders.proofs.ahead.dead_row.Lts as lts
+use Rattle.finders.proofs.ahead.stuck.Reads as stuck-reads
+
+abbrev Inv-loop : tie.InvT-loop
+Inv-loop rows head cells marks q₀ q = q ≤ rows
+
+abbrev μ-loop : tie.MeasureT-loop
+μ-loop rows head cells marks q₀ q = rows - q
+
+-- src/ahead.rt:50:5
+loop-holds : tie.Need-loop-holds Inv-loop μ-loop
+loop-holds c = search needs
+
+-- src/ahead.rt:51:12
+stuck-requires : tie.Need-stuck-requires Inv-loop μ-loop
+stuck-requires c κs = (c .before .before .before .before .pre, search needs)
+
+-- src/ahead.rt:52:13
+returns : tie.Need-returns Inv-loop μ-loop
+returns c = λ l. c .before .stuck .ensures (c .if1 .taken)
+
+-- src/ahead.rt:54:9
+add-q : tie.Need-add-q Inv-loop μ-loop
+add-q c = search needs
+
+-- src/ahead.rt:50:5
+loop-less : tie.Need-loop-less Inv-loop μ-loop
+loop-less c = search needs
+
+-- src/ahead.rt:50:5
+loop-again : tie.Need-loop-again Inv-loop μ-loop
+loop-again c = search needs
+
+-- src/ahead.rt:45:1
+returns-2 : tie.Need-returns-2 Inv-loop μ-loop
+returns-2 c = λ l. absurd (omega arith)
+
+pub dead-row-spec : {M : Type 1} → statement M
+dead-row-spec =
+    tie.close
+    (tie.spec
+    Inv-loop
+    μ-loop
+    loop-holds
+    stuck-requires
+    returns
+    add-q
+    loop-less
+    loop-again
+    returns-2)

@@ -1,0 +1,4 @@
+pub mod Ahead
+pub mod Back
+pub mod Run
+pub mod Answers

@@ -1,0 +1,105 @@
+// First, its part form and all starts, of anything that is lent. No text makes them quadratic.
+ghost use mathlib.Core.Path.{_≡_};
+ghost use Rattle.rules.specs.Matchers.{firstAnswer, partAnswer, startsAnswer};
+ghost use Rattle.table.specs.Lent.{tableOf};
+ghost use Rattle.finders.specs.Answers.{firstOf, listedOf, HandsBack};
+use ahead::Rows;
+use ahead::dead_row;
+use answers::First;
+use answers::Starts;
+use back::count_starts;
+use back::list_starts;
+use kinds::Refusal;
+use kinds::Row;
+use kinds::TEXT_MOST;
+use run::Found;
+use run::find;
+
+pub mod ahead;
+pub mod answers;
+pub mod back;
+pub mod run;
+
+// First, of anything that is lent.
+pub fn first(rows: u16, head: Row, cells: &[u16], marks: &[u8], text: &[u8]) -> First
+    ensures { λ r. ⌜ firstOf r ≡ firstAnswer (tableOf rows (head .0) (now (marks .entry)) (now (cells .entry))) (now (text .entry)) ⌝ }
+{
+    if !table::well_formed(rows, head, cells, marks) {
+        return First::Refused(Refusal::NotFormed);
+    }
+    if TEXT_MOST < text.len() {
+        return First::Refused(Refusal::LongText);
+    }
+    let found = find(rows, head, cells, marks, text);
+    match found {
+        Found::Match(s, e) => First::Match(s, e),
+        Found::Nothing => First::Nothing,
+    }
+}
+
+// First as a part of the text itself, borrowed from the text and never from the table; and the number of what came of it.
+pub fn first_part<'t>(
+    rows: u16,
+    head: Row,
+    cells: &[u16],
+    marks: &[u8],
+    text: &'t [u8],
+    outcome: &mut u8,
+) -> &'t [u8]
+    ensures { λ r. ⌜ HandsBack (text .entry) r (now (outcome .exit)) (partAnswer (tableOf rows (head .0) (now (marks .entry)) (now (cells .entry))) (now (text .entry))) ⌝ }
+{
+    if !table::well_formed(rows, head, cells, marks) {
+        *outcome = 13;
+        return &text[0..0];
+    }
+    let n = text.len();
+    if TEXT_MOST < n {
+        *outcome = 12;
+        return &text[0..0];
+    }
+    let found = find(rows, head, cells, marks, text);
+    match found {
+        Found::Match(s, e) => {
+            let a = s as usize;
+            let b = e as usize;
+            *outcome = 0;
+            &text[a..b]
+        }
+        Found::Nothing => {
+            *outcome = 1;
+            &text[n..n]
+        }
+    }
+}
+
+// All starts, of anything that is lent. Where the list has a place for every start that could be, they are not counted first.
+pub fn starts(
+    rows: u16,
+    head: Row,
+    cells: &[u16],
+    marks: &[u8],
+    text: &[u8],
+    list: &mut [u32],
+) -> Starts
+    ensures { λ r. ⌜ listedOf r (now (list .exit)) ≡ startsAnswer (tableOf rows (head .0) (now (marks .entry)) (now (cells .entry))) (now (text .entry)) (now (list .entry)) ⌝ }
+{
+    if !table::well_formed(rows, head, cells, marks) {
+        return Starts::Refused(Refusal::NotFormed);
+    }
+    if TEXT_MOST < text.len() {
+        return Starts::Refused(Refusal::LongText);
+    }
+    let dead = dead_row(rows, head, cells, marks);
+    let known = Rows {
+        count: rows,
+        head: head,
+        dead: dead,
+    };
+    if list.len() <= text.len() {
+        let count = count_starts(known, cells, marks, text);
+        if list.len() < count as usize {
+            return Starts::Refused(Refusal::FewPlaces(count));
+        }
+    }
+    Starts::Count(list_starts(known, cells, marks, text, list))
+}
