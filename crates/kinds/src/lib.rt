@@ -95,6 +95,28 @@ pub fn number(r: Refusal) -> u32
     }
 }
 
+pub fn place(r: Refusal) -> u32
+    ensures { λ i. ⌜ i ≡ refusalOf r .place ⌝ }
+{
+    match r {
+        Refusal::TooLong => PATTERN_MOST as u32,
+        Refusal::NoAtom(i) => i,
+        Refusal::BadCount(i) => i,
+        Refusal::BadClass(i) => i,
+        Refusal::BadEscape(i) => i,
+        Refusal::Stray(i) => i,
+        Refusal::NoGroup(i) => i,
+        Refusal::OpenGroup(i) => i,
+        Refusal::DeepGroup(i) => i,
+        Refusal::ManyNodes => 0,
+        Refusal::ManyRows => 0,
+        Refusal::LongText => 0,
+        Refusal::NotFormed => 0,
+        Refusal::PastEnd => 0,
+        Refusal::FewPlaces(_) => 0,
+    }
+}
+
 // The refusal of reading with this number and this place.
 pub fn reading(number: u8, place: u32) -> Refusal
     requires { ⌜ (2 ≤ number) × (number ≤ 9) ⌝ }

@@ -109,13 +109,13 @@ pub demand-1 : Demand1
 demand-1 p l = due-exactly (DrawingOf p) (CompileRefusals p l) (all-decided p l) (drawn p l) (draws p l)
 
 -- a table is given only where no refusal is due: then it is the compiled table of the tree, with S at most K
-record Compiled (p : List ℕ) (l : Room) (w : Table) : Type 0 where
-  tree : Tree
-  legal : Legal p tree
-  few : rowCount tree ≤ rowsFor l
-  is : w ≡ compiled tree
+pub record Compiled (p : List ℕ) (l : Room) (w : Table) : Type 0 where
+  pub tree : Tree
+  pub legal : Legal p tree
+  pub few : rowCount tree ≤ rowsFor l
+  pub is : w ≡ compiled tree
 
-when-given : (p : List ℕ) (l : Room) (w : Table) → drawn p l ≡ given w → Compiled p l w
+pub when-given : (p : List ℕ) (l : Room) (w : Table) → drawn p l ≡ given w → Compiled p l w
 when-given p l w e = go (rw e at (draws p l))
   where
     apart : {r : Refusal} → _≡_ {A = Answer Table} (given w) (refused r) → ⊥

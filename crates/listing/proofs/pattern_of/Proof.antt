@@ -1,0 +1,38 @@
+use borrow.Author.Needs.{needs}
+use mathlib.Core.Path.{sym}
+use native.Mathlib.Omega.{arith}
+use lib.ListN.{length-take}
+use Rattle.listing.proofs.Inputs.{line-end-dropped, no-line-end, nothing-left}
+use Rattle.listing.proofs.pattern_of.Statement.{statement}
+use Rattle.listing.proofs.pattern_of.Tie as tie
+use Rattle.listing.proofs.pattern_of.Reads as reads
+use Rattle.listing.proofs.pattern_of.Lts as lts
+
+-- src/input.rt:11:9
+returns : tie.Need-returns
+returns c = nothing-left (c .before .args .input .now) (search needs)
+
+-- src/input.rt:13:16
+sub-last : tie.Need-sub-last
+sub-last c = search needs
+
+-- src/input.rt:14:8
+shared-slice-read-if2 : tie.Need-shared-slice-read-if2
+shared-slice-read-if2 c = search needs
+
+-- src/input.rt:15:9
+slice-aggregate-result : tie.Need-slice-aggregate-result
+slice-aggregate-result c = simp length-take (omega arith)
+
+-- src/input.rt:15:9
+returns-2 : tie.Need-returns-2
+returns-2 c = sym (line-end-dropped (c .before .before .before .before .args .input .now) _ (omega arith) (c .before .if2 .taken))
+
+-- src/input.rt:6:1
+returns-3 : tie.Need-returns-3
+returns-3 c = sym (no-line-end (c .before .before .before .args .input .now) _ (omega arith) (c .if2 .left))
+
+pub pattern-of-spec : {M : Type 1} → statement M
+pattern-of-spec =
+    tie.close
+    (tie.spec returns sub-last shared-slice-read-if2 slice-aggregate-result returns-2 returns-3)
