@@ -6,7 +6,7 @@ use mathlib.Core.List.{List, [], _∷_, map}
 use Prim.Native.Nat.{ℕ, zero, suc, _+_, _*_, _<_, _≤_}
 use native.Mathlib.Omega.{arith}
 use native.Mathlib.Nat.{suc-mul}
-use native.Mathlib.Decide.{ℕ-discrete}
+use native.Mathlib.Decide.{ℕ-discrete, decLt}
 use lib.Dec.{T}
 use lib.ListN.{length, getD}
 use lib.Seq.{ext-getD}
@@ -35,6 +35,24 @@ least-only sigs i j li lj e = sym (least-same sigs i li) ∙ ap {B = List ℕ} (
 
 pub least-all : (sigs : List (List ℕ)) (i j : ℕ) → i < length sigs → j < length sigs → getD sigs i [] ≡ getD sigs j [] → at (leasts sigs) i ≡ at (leasts sigs) j
 least-all sigs i j li lj e = least-at sigs i li ∙ ap {B = ℕ} (λ (s : List ℕ). place (same s) sigs) e ∙ sym (least-at sigs j lj)
+
+-- p is the least place that f takes to what it takes i to
+abbrev pub LeastLike : {A : Type 0} → (ℕ → A) → ℕ → ℕ → Type 0
+LeastLike f i p = (p ≤ i) × (f p ≡ f i) × ((j : ℕ) → j < p → f j ≢ f i)
+
+-- no other list has these places
+leasts-only : (sigs : List (List ℕ)) (c : List ℕ) → length c ≡ length sigs → ((i : ℕ) → i < length sigs → LeastLike (λ j. getD sigs j []) i (at c i)) → c ≡ leasts sigs
+leasts-only sigs c e h = ext-getD 0 c (leasts sigs) (e ∙ sym (length-map (λ s. place (same s) sigs) sigs)) (λ i l. one i (subst (λ (n : ℕ). i < n) e l))
+  where
+    one : (i : ℕ) → i < length sigs → at c i ≡ at (leasts sigs) i
+    one i l = go (decLt (at (leasts sigs) i) (at c i))
+      where
+        p-in : at c i < length sigs
+        p-in = omega (arith, h i l .0)
+
+        go : Dec (at (leasts sigs) i < at c i) → at c i ≡ at (leasts sigs) i
+        go (yes a) = absurd (h i l .2 (at (leasts sigs) i) a (least-same sigs i l))
+        go (no a) = omega (arith, a, least-all sigs (at c i) i p-in l (h i l .1), least-le sigs (at c i) p-in)
 
 -- ---- signs
 
@@ -122,6 +140,16 @@ module _ {rs : List (List ℕ)} {ms : List ℕ} (G : Grid rs ms) where
     together i j li lj e =
         sym (sign-at c rs c i (C .long) li) ∙ least-only (signs c rs c) i j (in-signs i li) (in-signs j lj) e ∙ sign-at c rs c j (C .long) lj
 
+    -- a list that names each row by the least of one sign
+    pub round-only : (d : List ℕ) → length d ≡ length rs → ((i : ℕ) → i < length rs → LeastLike (sig c) i (at d i)) → d ≡ round rs c
+    round-only d e h = leasts-only (signs c rs c) d (e ∙ sym (length-signs c rs c (C .long))) (λ i l. one i (subst (λ (n : ℕ). i < n) (length-signs c rs c (C .long)) l))
+      where
+        sign : (i : ℕ) → i < length rs → getD (signs c rs c) i [] ≡ sig c i
+        sign i l = sign-at c rs c i (C .long) l
+
+        one : (i : ℕ) → i < length rs → LeastLike (λ j. getD (signs c rs c) j []) i (at d i)
+        one i l = (h i l .0, sign (at d i) (omega (arith, h i l .0)) ∙ h i l .1 ∙ sym (sign i l), λ j lj q. h i l .2 j lj (sym (sign j (omega (arith, h i l .0))) ∙ q ∙ sign i l))
+
     stay : (i j : ℕ) → i < length rs → j < length rs → sig c i ≡ sig c j → at (round rs c) i ≡ at (round rs c) j
     stay i j li lj e = least-all (signs c rs c) i j (in-signs i li) (in-signs j lj) (sign-at c rs c i (C .long) li ∙ e ∙ sym (sign-at c rs c j (C .long) lj))
 
@@ -145,6 +173,14 @@ module _ {rs : List (List ℕ)} {ms : List ℕ} (G : Grid rs ms) where
 
     pub alike : (i j b : ℕ) → i < length rs → j < length rs → b < 256 → sig c i ≡ sig c j → at c (at (getD rs i []) b) ≡ at c (at (getD rs j []) b)
     alike i j b li lj lb e = sym (target i b li lb) ∙ ap {B = ℕ} (λ (l : List ℕ). at l (suc b)) e ∙ target j b lj lb
+
+    pub same-sig : (i j : ℕ) → i < length rs → j < length rs → at c i ≡ at c j → ((b : ℕ) → b < 256 → at c (at (getD rs i []) b) ≡ at c (at (getD rs j []) b)) → sig c i ≡ sig c j
+    same-sig i j li lj e h = ap₂ {C = List ℕ} (λ (k : ℕ) (l : List ℕ). k ∷ l) e
+        (ext-getD 0 (map (λ q. at c q) (getD rs i [])) (map (λ q. at c q) (getD rs j [])) (wide i li ∙ sym (wide j lj))
+        (λ b l. let lb : b < 256 = subst (λ (n : ℕ). b < n) (wide i li) l in target i b li lb ∙ h b lb ∙ sym (target j b lj lb)))
+      where
+        wide : (i : ℕ) → i < length rs → length (map (λ q. at c q) (getD rs i [])) ≡ 256
+        wide i l = length-map (λ q. at c q) (getD rs i []) ∙ G .wide i l
 
     round-apart : (i j : ℕ) → i < length rs → j < length rs → at (round rs c) i ≢ at (round rs c) j → Apart i j
     round-apart i j li lj n = found (differ (sig c i) (sig c j) lengths (λ e. n (stay i j li lj e)))
@@ -171,12 +207,12 @@ module _ {rs : List (List ℕ)} {ms : List ℕ} (G : Grid rs ms) where
       apart = round-apart;
     }
 
-    round-more : round rs c ≢ c → total c < total (round rs c)
+    pub round-more : round rs c ≢ c → total c < total (round rs c)
     round-more n =
         let x : (k : ℕ) × (k < length c) × (at c k ≢ at (round rs c) k) = differ c (round rs c) (C .long ∙ sym round-long) (λ e. n (sym e)) in
         total-lt c (round rs c) (C .long ∙ sym round-long) (λ i l. round-ge i (subst (λ (z : ℕ). i < z) (C .long) l)) (x .0) (x .1) (x .2)
 
-    total-all : total c ≤ length rs * length rs
+    pub total-all : total c ≤ length rs * length rs
     total-all = subst (λ (z : ℕ). total c ≤ z * length rs) (C .long)
         (total-most (length rs) c (λ i l. small (C .low i (subst (λ (z : ℕ). i < z) (C .long) l)) (subst (λ (z : ℕ). i < z) (C .long) l)))
       where
@@ -213,14 +249,23 @@ module _ {rs : List (List ℕ)} {ms : List ℕ} (G : Grid rs ms) where
       inside : (i : ℕ) → i < length rs → i < length (map (λ m. m ∷ []) ms)
       inside i l = subst (λ (z : ℕ). i < z) (sym len) l
 
+  -- a list that names each row by the least with its mark
+  pub first-only : (c : List ℕ) → length c ≡ length rs → ((i : ℕ) → i < length rs → LeastLike (at ms) i (at c i)) → c ≡ leasts (map (λ m. m ∷ []) ms)
+  first-only c e h = leasts-only (map (λ m. m ∷ []) ms) c (e ∙ sym long) (λ i l. one i (subst (λ (n : ℕ). i < n) long l))
+    where
+      long : length (map (λ m. m ∷ []) ms) ≡ length rs
+      long = length-map (λ m. m ∷ []) ms ∙ G .marked
+
+      one : (i : ℕ) → i < length rs → LeastLike (λ j. getD (map (λ m. m ∷ []) ms) j []) i (at c i)
+      one i l = (
+        h i l .0,
+        one-sig (at c i) (omega (arith, h i l .0)) ∙ ap (λ (m : ℕ). m ∷ []) (h i l .1) ∙ sym (one-sig i l),
+        λ j lj q. h i l .2 j lj (ap (λ (x : List ℕ). at x 0) (sym (one-sig j (omega (arith, h i l .0))) ∙ q ∙ one-sig i l)),
+      )
+
   pub classes-right : Classes (classes rs ms) × (round rs (classes rs ms) ≡ classes rs ms)
   unfolding classes
   classes-right = settled-right (length rs * length rs) (leasts (map (λ m. m ∷ []) ms)) (first-classes) (omega arith)
-
-  -- a row and its class's least row go alike
-  pub least-alike : (q : ℕ) → q < length rs → sig (classes rs ms) (at (classes rs ms) q) ≡ sig (classes rs ms) q
-  least-alike q l = subst (λ (x : ℕ). sig (classes rs ms) x ≡ sig (classes rs ms) q) (ap {B = ℕ} (λ (x : List ℕ). at x q) (classes-right .1))
-      (round-same (classes rs ms) (classes-right .0) q l)
 
   -- ---- no other classes
 
@@ -248,13 +293,19 @@ module _ {rs : List (List ℕ)} {ms : List ℕ} (G : Grid rs ms) where
       go (yes e) = omega (arith, e, N .sorted .low (at d i) low)
       go (no n) = let x : Apart (at d i) i = N .sorted .apart (at d i) i low l n in absurd (x .2 (not-apart d M (x .0) (at d i) i (x .1) low l (M .named i l)))
 
-  pub classes-named : Named (classes rs ms)
-  classes-named = record {
-    sorted = classes-right .0;
-    stable = λ i j b li lj lb e. alike (classes rs ms) (classes-right .0) i j b li lj lb
-        (sym (least-alike i li) ∙ ap {B = List ℕ} (λ (q : ℕ). sig (classes rs ms) q) e ∙ least-alike j lj);
-    named = λ i l. class-of-sig (classes rs ms) (classes-right .0) (at (classes rs ms) i) i (least-alike i l);
+  -- classes that a round leaves as they are
+  pub fixed-named : (c : List ℕ) → Classes c → round rs c ≡ c → Named c
+  fixed-named c C f = record {
+    sorted = C;
+    stable = λ i j b li lj lb e. alike c C i j b li lj lb (sym (own i li) ∙ ap {B = List ℕ} (λ (q : ℕ). sig c q) e ∙ own j lj);
+    named = λ i l. class-of-sig c C (at c i) i (own i l);
   }
+    where
+      own : (q : ℕ) → q < length rs → sig c (at c q) ≡ sig c q
+      own q l = subst (λ (x : ℕ). sig c x ≡ sig c q) (ap {B = ℕ} (λ (x : List ℕ). at x q) f) (round-same c C q l)
+
+  pub classes-named : Named (classes rs ms)
+  classes-named = fixed-named (classes rs ms) (classes-right .0) (classes-right .1)
 
   pub classes-only : (c : List ℕ) → Named c → c ≡ classes rs ms
   classes-only c N = ext-getD 0 c (classes rs ms) (N .sorted .long ∙ sym (classes-right .0 .long))

@@ -35,16 +35,16 @@ module _ {rs : List (List ℕ)} {ms : List ℕ} (G : Grid rs ms) where
   C : Classes G cl
   C = N .sorted
 
-  low : (q : ℕ) → q < length rs → at cl q < length rs
+  pub low : (q : ℕ) → q < length rs → at cl q < length rs
   low q l = omega (arith, C .low q l)
 
-  again : (q : ℕ) → q < length rs → at cl (at cl q) ≡ at cl q
+  pub again : (q : ℕ) → q < length rs → at cl (at cl q) ≡ at cl q
   again q l = N .named q l
 
-  number-at : (q : ℕ) → q < length rs → (number q < length keep) × (at keep (number q) ≡ at cl q)
+  pub number-at : (q : ℕ) → q < length rs → (number q < length keep) × (at keep (number q) ≡ at cl q)
   number-at q l = place-at keep (at cl q) (kept-has (λ q. eqb (at cl q) q) 0 (length rs) (at cl q) (omega arith, omega (arith, low q l), eq-test (at cl (at cl q)) (at cl q) (again q l)))
 
-  keep-in : (k : ℕ) → k < length keep → at keep k < length rs
+  pub keep-in : (k : ℕ) → k < length keep → at keep k < length rs
   keep-in k l = omega (arith, kept-at (λ q. eqb (at cl q) q) 0 (length rs) k l .1)
 
   keep-up : (j k : ℕ) → j < k → k < length keep → at keep j < at keep k
@@ -82,16 +82,16 @@ module _ {rs : List (List ℕ)} {ms : List ℕ} (G : Grid rs ms) where
 
   -- ---- the rows kept
 
-  kept-own : (k : ℕ) → k < length keep → at cl (at keep k) ≡ at keep k
+  pub kept-own : (k : ℕ) → k < length keep → at cl (at keep k) ≡ at keep k
   kept-own k l = eqb→eq (at cl (at keep k)) (at keep k) (kept-at (λ q. eqb (at cl q) q) 0 (length rs) k l .2)
 
-  number-keep : (k : ℕ) → k < length keep → number (at keep k) ≡ k
+  pub number-keep : (k : ℕ) → k < length keep → number (at keep k) ≡ k
   number-keep k l = kept-inj (λ q. eqb (at cl q) q) 0 (length rs) (number (at keep k)) k (number-at (at keep k) (keep-in k l) .0) l (number-at (at keep k) (keep-in k l) .1 ∙ kept-own k l)
 
-  kept-cell : (k b : ℕ) → k < length keep → b < 256 → cell (merged rs ms) k b ≡ number (at (getD rs (at keep k) []) b)
+  pub kept-cell : (k b : ℕ) → k < length keep → b < 256 → cell (merged rs ms) k b ≡ number (at (getD rs (at keep k) []) b)
   kept-cell k b l lb = ap {B = ℕ} (λ (x : ℕ). cell (merged rs ms) x b) (sym (number-keep k l)) ∙ merged-cell (at keep k) b (keep-in k l) lb
 
-  kept-mark : (k : ℕ) → k < length keep → at (merged rs ms .marks) k ≡ at ms (at keep k)
+  pub kept-mark : (k : ℕ) → k < length keep → at (merged rs ms .marks) k ≡ at ms (at keep k)
   unfolding merged
   kept-mark k l = getD-map-in (λ q. at ms q) keep k 0 0 l
 
