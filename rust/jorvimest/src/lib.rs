@@ -1,4 +1,16 @@
 //! The proved matchers, as Rust calls them.
+//!
+//! ```
+//! use jorvimest::Table;
+//!
+//! // `^a`: row 0 inside, row 1 at position 0, row 2 after the a
+//! let mut cells = vec![0; 3 * 256];
+//! cells[256 + 97] = 2;
+//! let table = Table { rows: 3, head: 1, cells: &cells, marks: &[0, 0, 3] };
+//! assert_eq!(table.whole(b"a"), Ok(true));
+//! assert_eq!(table.first(b"ab"), Ok(Some((0, 1))));
+//! assert_eq!(table.first(b"ba"), Ok(None));
+//! ```
 
 /// A table as it is lent: any numbers and any lengths.
 #[derive(Clone, Copy)]
