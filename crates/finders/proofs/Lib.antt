@@ -4,5 +4,6 @@ pub mod BackLaws
 pub mod ListLaws
 pub mod KeptLaws
 pub mod RunLaws
+pub mod TriesLaws
 pub mod AnswerLaws
 pub mod FindersOnce

@@ -1,7 +1,7 @@
 -- The list of first: what its entries lead to, and how it is kept as a row joins it.
 use mathlib.Core.Path.{_≡_, refl, ap, sym, subst, _∙_}
 use mathlib.Core.Logic.{_≢_, ⊎-elim}
-use mathlib.Core.Bool.{Bool, true, false}
+use mathlib.Core.Bool.{Bool, true, false, true≢false}
 use mathlib.Core.List.{List, []}
 use mathlib.Core.Option.{Option, none, some}
 use Prim.Native.Nat.{ℕ, zero, suc, _+_, _-_, _≤_, _<_}
@@ -10,13 +10,13 @@ use native.Mathlib.Nat.{add-zero}
 use native.Mathlib.Decide.{decLt, ℕ-discrete}
 use native.Mathlib.Omega.{arith}
 use lib.ListN.{length, getD, set, drop}
-use lib.Seq.{getD-set-same, getD-set-other}
+use lib.Seq.{drop-length}
 use Rattle.rules.specs.Tools.{guard, orElse, ifSome}
 use Rattle.rules.specs.Table.{Table, cell, begins, fits}
 use Rattle.rules.proofs.Pigeon.{pigeon}
 use Rattle.finders.specs.declared.run.Found.{Found}
 use Rattle.finders.specs.declared.run.Found.the-variants as found
-use Rattle.finders.specs.Ahead.{mark, Stuck}
+use Rattle.finders.specs.Ahead.{mark, ahead, Stuck}
 use Rattle.finders.specs.Run.{foundOf, lastEnd, orMatch, firstOfList, firstFrom, otherwise, Kept, Joined}
 use Rattle.finders.proofs.AheadLaws.{drop-next, ahead-stuck, drop-bytes}
 use Rattle.finders.proofs.StartsLaws.{isSome, some-ahead, first-none}
@@ -48,18 +48,30 @@ module _ (w : Table) (t : List ℕ) where
         go none = refl
         go (some e) = refl
 
-  -- nothing comes after a row that is stuck
-  pub match-stuck : {q : ℕ} → Stuck w q → ((i : ℕ) → getD t i 0 < 256) → (p s : ℕ) (c : Option (ℕ × ℕ)) → orMatch w t p q s c ≡ c
-  match-stuck {q} k b p s c = go (lastEnd w q p (drop p t)) (some-ahead w t (drop p t) q p ∙ ahead-stuck k (drop p t) (drop-bytes t p b))
+  -- no match lies ahead
+  pub match-none : (p q s : ℕ) (c : Option (ℕ × ℕ)) → ahead w q (drop p t) ≡ false → orMatch w t p q s c ≡ c
+  match-none p q s c h = go (lastEnd w q p (drop p t)) (some-ahead w t (drop p t) q p ∙ h)
     where
       go : (x : Option ℕ) → isSome x ≡ false → ifSome x (λ e. some (s, e)) c ≡ c
       go none e = refl
-      go (some x) e = absurd (mathlib.Core.Bool.true≢false e)
+      go (some x) e = absurd (true≢false e)
+
+  -- a match lies ahead
+  pub match-some : (p q s : ℕ) (c d : Option (ℕ × ℕ)) → ahead w q (drop p t) ≡ true → orMatch w t p q s c ≡ orMatch w t p q s d
+  match-some p q s c d h = go (lastEnd w q p (drop p t)) (some-ahead w t (drop p t) q p ∙ h)
+    where
+      go : (x : Option ℕ) → isSome x ≡ true → ifSome x (λ e. some (s, e)) c ≡ ifSome x (λ e. some (s, e)) d
+      go none e = absurd (true≢false (sym e))
+      go (some x) e = refl
+
+  -- nothing comes after a row that is stuck
+  pub match-stuck : {q : ℕ} → Stuck w q → ((i : ℕ) → getD t i 0 < 256) → (p s : ℕ) (c : Option (ℕ × ℕ)) → orMatch w t p q s c ≡ c
+  match-stuck {q} k b p s c = match-none p q s c (ahead-stuck k (drop p t) (drop-bytes t p b))
 
   -- at the text's end
   pub match-end : (q s : ℕ) (c : Option (ℕ × ℕ)) (b : Bool) → fits (mark w q) true ≡ b → orMatch w t (length t) q s c ≡ elim b [ true ↦ some (s, length t) | false ↦ c ]
   unfolding lastEnd
-  match-end q s c b e = ap (λ (u : List ℕ). ifSome (lastEnd w q (length t) u) (λ e. some (s, e)) c) (lib.Seq.drop-length t) ∙ go b e
+  match-end q s c b e = ap (λ (u : List ℕ). ifSome (lastEnd w q (length t) u) (λ e. some (s, e)) c) (drop-length t) ∙ go b e
     where
       go : (b : Bool) → fits (mark w q) true ≡ b → ifSome (guard (fits (mark w q) true) (length t)) (λ e. some (s, e)) c ≡ elim b [ true ↦ some (s, length t) | false ↦ c ]
       go true e = ap (λ (b : Bool). ifSome (guard b (length t)) (λ e. some (s, e)) c) e

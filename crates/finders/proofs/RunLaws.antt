@@ -7,21 +7,21 @@ use Prim.Native.Nat.{ℕ, suc, _+_, _-_, _≤_, _<_}
 use native.Mathlib.Numerals.{add-one}
 use native.Mathlib.Omega.{arith}
 use lib.ListN.{length, getD}
-use Rattle.rules.specs.Table.{Table, cell, begins, fits, first}
+use Rattle.rules.specs.Table.{Table, cell, begins, fits}
 use Rattle.finders.specs.declared.run.Found.{Found}
 use Rattle.finders.specs.declared.run.Found.the-variants as found
 use Rattle.finders.specs.declared.run.Step.{Step}
 use Rattle.finders.specs.Ahead.{mark, Stuck}
-use Rattle.finders.specs.Run.{foundOf, orMatch, firstOfList, otherwise, outcome, Kept, Joined, Opened, Carried, Advanced}
-use Rattle.finders.proofs.StartsLaws.{first-all, first-at}
+use Rattle.finders.specs.Run.{foundOf, orMatch, firstOfList, firstFrom, otherwise, outcome, Kept, Joined, Opened, Carried, Advanced}
+use Rattle.finders.proofs.StartsLaws.{first-at}
 use Rattle.finders.proofs.ListLaws.{match-later, match-here, match-stuck, match-end, otherwise-end}
 use Rattle.finders.proofs.KeptLaws.{kept-none}
 
 module _ (w : Table) (t : List ℕ) where
   -- no start has joined yet
-  pub outcome-none : (rows froms : List ℕ) → first w t ≡ outcome w t rows froms 0 found.Nothing 0 0
+  pub outcome-none : (rows froms : List ℕ) (s : ℕ) → firstFrom w t s ≡ outcome w t rows froms 0 found.Nothing s s
   unfolding outcome firstOfList
-  outcome-none rows froms = first-all w t
+  outcome-none rows froms s = refl
 
   -- ---- a start joins
 
@@ -51,8 +51,8 @@ module _ (w : Table) (t : List ℕ) where
           ∙ sym (first-at w t p h) ∙ sym (ap (λ (b : Found). otherwise w t b p) e)
 
   -- nothing is left in the list
-  pub opened-over : {rows froms rows′ froms′ stamps′ : List ℕ} {len p r : ℕ} {best : Found} → Opened w t rows froms rows′ froms′ stamps′ len best p r
-      → first w t ≡ outcome w t rows froms len best p p → r ≡ 0 → foundOf best ≡ first w t
+  pub opened-over : {rows froms rows′ froms′ stamps′ : List ℕ} {len p r : ℕ} {best : Found} {x : Option (ℕ × ℕ)} → Opened w t rows froms rows′ froms′ stamps′ len best p r
+      → x ≡ outcome w t rows froms len best p p → r ≡ 0 → foundOf best ≡ x
   unfolding outcome firstOfList
   opened-over {rows} {froms} {rows′} {froms′} {stamps′} {len} {p} {r} {best} o e z =
       sym (e ∙ sym (o .same) ∙ ap (λ (n : ℕ). firstOfList w t p rows′ froms′ 0 n (otherwise w t best (p + 1))) z ∙ o .over z)

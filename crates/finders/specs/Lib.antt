@@ -1,4 +1,5 @@
 pub mod Ahead
 pub mod Back
 pub mod Run
+pub mod Tries
 pub mod Answers

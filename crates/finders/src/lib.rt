@@ -1,8 +1,15 @@
 // First, its part form and all starts, of anything that is lent. No text makes them quadratic.
 ghost use mathlib.Core.Path.{_≡_};
+ghost use mathlib.Core.Bool.{true};
+ghost use Prim.Native.Nat.{_≤_};
+ghost use lib.ListN.{length};
+ghost use Rattle.rules.specs.Sizes.{textMost};
+ghost use Rattle.rules.specs.Table.{wellFormed};
+ghost use Rattle.rules.specs.Table as rule;
 ghost use Rattle.rules.specs.Matchers.{firstAnswer, partAnswer, startsAnswer};
 ghost use Rattle.table.specs.Lent.{tableOf};
 ghost use Rattle.finders.specs.Answers.{firstOf, listedOf, HandsBack};
+ghost use Rattle.finders.specs.Run.{foundOf};
 use ahead::Rows;
 use ahead::dead_row;
 use answers::First;
@@ -13,12 +20,38 @@ use kinds::Refusal;
 use kinds::Row;
 use kinds::TEXT_MOST;
 use run::Found;
-use run::find;
+use run::read_on;
+use tries::last_match;
+use tries::try_each;
 
-pub mod ahead;
+mod ahead;
 pub mod answers;
-pub mod back;
-pub mod run;
+mod back;
+mod run;
+mod tries;
+
+// First, of a well-formed table: by trying each start, or where that gets dear, with the list of rows from there on.
+fn find(rows: u16, head: Row, cells: &[u16], marks: &[u8], text: &[u8]) -> Found
+    requires { ⌜ wellFormed (tableOf rows (head .0) (now marks) (now cells)) ≡ true ⌝ }
+    requires { ⌜ length (now text) ≤ textMost ⌝ }
+    ensures { λ r. ⌜ foundOf r ≡ rule.first (tableOf rows (head .0) (now (marks .entry)) (now (cells .entry))) (now (text .entry)) ⌝ }
+{
+    let dead = dead_row(rows, head, cells, marks);
+    let known = Rows {
+        count: rows,
+        head: head,
+        dead: dead,
+    };
+    let tried = try_each(known, cells, marks, text);
+    let at = tried.at;
+    if tried.found {
+        return last_match(known, cells, marks, text, at);
+    }
+    if text.len() < at {
+        return Found::Nothing;
+    }
+    read_on(known, cells, marks, text, at)
+}
 
 // First, of anything that is lent.
 pub fn first(rows: u16, head: Row, cells: &[u16], marks: &[u8], text: &[u8]) -> First

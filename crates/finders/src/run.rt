@@ -1,17 +1,12 @@
 // First, in one pass over the text with a list of rows, each with the least start that has led to it.
 ghost use mathlib.Core.Path.{_≡_};
-ghost use mathlib.Core.Bool.{true};
 ghost use Prim.Native.Nat.{_+_, _≤_, _<_};
 ghost use lib.ListN.{length};
-ghost use Rattle.rules.specs.Sizes.{rowsMost, textMost};
-ghost use Rattle.rules.specs.Table.{wellFormed};
-ghost use Rattle.rules.specs.Table as rule;
-ghost use Rattle.table.specs.Lent.{tableOf};
+ghost use Rattle.rules.specs.Sizes.{rowsMost};
 ghost use Rattle.finders.specs.Ahead.{lent, Ready};
-ghost use Rattle.finders.specs.Run.{foundOf, outcome, Kept, Joined, Opened, Carried, Advanced};
+ghost use Rattle.finders.specs.Run.{foundOf, firstFrom, outcome, Kept, Joined, Opened, Carried, Advanced};
 use crate::ahead::Rows;
 use crate::ahead::begin;
-use crate::ahead::dead_row;
 use kinds::Row;
 
 // A match, or none.
@@ -180,17 +175,18 @@ fn close_at_end(
     best
 }
 
-// From the text's beginning to its end, or until a match is known and no earlier start is left.
-fn read_on(known: Rows, cells: &[u16], marks: &[u8], text: &[u8]) -> Found
+// First, of the starts from `from` on: to the text's end, or until a match is known and no earlier start is left.
+pub fn read_on(known: Rows, cells: &[u16], marks: &[u8], text: &[u8], from: usize) -> Found
     requires { ⌜ Ready (lent known (now marks) (now cells)) (now text) (known .dead .0) ⌝ }
-    ensures { λ r. ⌜ foundOf r ≡ rule.first (lent known (now (marks .entry)) (now (cells .entry))) (now (text .entry)) ⌝ }
+    requires { ⌜ from ≤ length (now text) ⌝ }
+    ensures { λ r. ⌜ foundOf r ≡ firstFrom (lent known (now (marks .entry)) (now (cells .entry))) (now (text .entry)) from ⌝ }
 {
     let mut rows = [0u16; 1024];
     let mut froms = [0u32; 1024];
     let mut stamps = [0u32; 1024];
     let mut len: usize = 0;
     let mut best = Found::Nothing;
-    let mut p: usize = 0;
+    let mut p = from;
     while p < text.len() {
         len = open_at(
             known,
@@ -236,19 +232,4 @@ fn read_on(known: Rows, cells: &[u16], marks: &[u8], text: &[u8]) -> Found
         p,
     );
     close_at_end(known, cells, marks, text, &rows, &froms, &stamps, len, best)
-}
-
-// First, of a well-formed table.
-pub fn find(rows: u16, head: Row, cells: &[u16], marks: &[u8], text: &[u8]) -> Found
-    requires { ⌜ wellFormed (tableOf rows (head .0) (now marks) (now cells)) ≡ true ⌝ }
-    requires { ⌜ length (now text) ≤ textMost ⌝ }
-    ensures { λ r. ⌜ foundOf r ≡ rule.first (tableOf rows (head .0) (now (marks .entry)) (now (cells .entry))) (now (text .entry)) ⌝ }
-{
-    let dead = dead_row(rows, head, cells, marks);
-    let known = Rows {
-        count: rows,
-        head: head,
-        dead: dead,
-    };
-    read_on(known, cells, marks, text)
 }

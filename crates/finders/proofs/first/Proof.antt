@@ -12,44 +12,44 @@ use Rattle.finders.proofs.first.Statement.{statement}
 use Rattle.finders.proofs.first.Tie as tie
 use Rattle.finders.proofs.first.Reads as reads
 use Rattle.finders.proofs.first.Lts as lts
-use Rattle.finders.proofs.run.find.Reads as find-reads
+use Rattle.finders.proofs.find.Reads as find-reads
 use Rattle.table.proofs.well_formed.Reads as well-formed-reads
 
 formed : (c : tie.Else1) → let A = c .before .before .before .before .before .args in wellFormed (tableOf (A .rows) (A .head .0) (A .marks .now) (A .cells .now)) ≡ true
 formed c = sym (c .before .well-formed .ensures) ∙ not-false _ (c .if1 .left)
 
--- src/lib.rt:21:9
+-- src/lib.rt:53:9
 well-formed-requires : tie.Need-well-formed-requires
 well-formed-requires c κs = search needs
 
--- src/lib.rt:22:9
+-- src/lib.rt:54:9
 returns : tie.Need-returns
 unfolding firstAnswer
 returns c = sym (checked-13 _ _ _ (sym (c .before .well-formed .ensures) ∙ not-true _ (c .if1 .taken)))
 
--- src/lib.rt:25:9
+-- src/lib.rt:57:9
 returns-2 : tie.Need-returns-2
 unfolding firstAnswer
 returns-2 c = sym (checked-12 _ _ _ (formed (c .before)) (c .if2 .taken))
 
--- src/lib.rt:27:9
+-- src/lib.rt:59:9
 find-requires : tie.Need-find-requires
 find-requires c κs = (formed (c .before), c .if2 .left)
 
--- src/lib.rt:29:22
+-- src/lib.rt:61:22
 enum-known-found : tie.Need-enum-known-found
 enum-known-found c = search needs
 
--- src/lib.rt:30:27
+-- src/lib.rt:62:27
 enum-told : tie.Need-enum-told
 enum-told c = search needs
 
--- src/lib.rt:18:1
+-- src/lib.rt:50:1
 returns-3 : tie.Need-returns-3
 unfolding firstAnswer
 returns-3 c = ap given (ap foundOf (sym (c .before .found .given .1)) ∙ c .before .before .before .find .ensures) ∙ sym (checked-past _ _ _ (formed (c .before .before .before .before .before)) (c .before .before .before .before .if2 .left))
 
--- src/lib.rt:18:1
+-- src/lib.rt:50:1
 returns-4 : tie.Need-returns-4
 unfolding firstAnswer
 returns-4 c = ap given (ap foundOf (sym (c .enum-told .given .1)) ∙ c .before .before .find .ensures) ∙ sym (checked-past _ _ _ (formed (c .before .before .before .before)) (c .before .before .before .if2 .left))

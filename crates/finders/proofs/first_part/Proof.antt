@@ -18,7 +18,7 @@ use Rattle.finders.proofs.first_part.Statement.{statement}
 use Rattle.finders.proofs.first_part.Tie as tie
 use Rattle.finders.proofs.first_part.Reads as reads
 use Rattle.finders.proofs.first_part.Lts as lts
-use Rattle.finders.proofs.run.find.Reads as find-reads
+use Rattle.finders.proofs.find.Reads as find-reads
 use Rattle.table.proofs.well_formed.Reads as well-formed-reads
 
 abbrev table : tie.Start → Table
@@ -34,95 +34,95 @@ found c = c .find .ensures
 within : (c : tie.After-found) → (c .found .given .0 .0 ≤ c .found .given .0 .1 .0) × (c .found .given .0 .1 .0 ≤ length (c .before .before .before .before .before .before .before .before .before .args .text .now))
 within c = first-within _ _ _ _ (sym (found (c .before .before)) ∙ ap foundOf (c .found .given .1))
 
--- src/lib.rt:38:9
+-- src/lib.rt:70:9
 well-formed-requires : tie.Need-well-formed-requires
 well-formed-requires c κs = search needs
 
--- src/lib.rt:40:16
+-- src/lib.rt:72:16
 sub-result : tie.Need-sub-result
 sub-result c = search needs
 
--- src/lib.rt:40:16
+-- src/lib.rt:72:16
 part-result-start : tie.Need-part-result-start
 part-result-start c = search needs
 
--- src/lib.rt:40:16
+-- src/lib.rt:72:16
 part-result-end : tie.Need-part-result-end
 part-result-end c = search needs
 
--- src/lib.rt:40:9
+-- src/lib.rt:72:9
 returns : tie.Need-returns
 unfolding partAnswer firstAnswer partOf
 returns c = hands-back (ap (partOf _) (checked-13 _ _ _ (sym (c .before .before .well-formed .ensures) ∙ not-true _ (c .before .if1 .taken)))) (record { outcome = refl; block = refl; place = omega arith; bytes = refl })
 
--- src/lib.rt:45:16
+-- src/lib.rt:77:16
 sub-result-2 : tie.Need-sub-result-2
 sub-result-2 c = search needs
 
--- src/lib.rt:45:16
+-- src/lib.rt:77:16
 part-result-start-2 : tie.Need-part-result-start-2
 part-result-start-2 c = search needs
 
--- src/lib.rt:45:16
+-- src/lib.rt:77:16
 part-result-end-2 : tie.Need-part-result-end-2
 part-result-end-2 c = search needs
 
--- src/lib.rt:45:9
+-- src/lib.rt:77:9
 returns-2 : tie.Need-returns-2
 unfolding partAnswer firstAnswer partOf
 returns-2 c = hands-back (ap (partOf _) (checked-12 _ _ _ (formed (c .before .before)) (c .before .if2 .taken))) (record { outcome = refl; block = refl; place = omega arith; bytes = refl })
 
--- src/lib.rt:47:9
+-- src/lib.rt:79:9
 find-requires : tie.Need-find-requires
 find-requires c κs = (formed (c .before), c .if2 .left)
 
--- src/lib.rt:49:22
+-- src/lib.rt:81:22
 enum-known-found : tie.Need-enum-known-found
 enum-known-found c = search needs
 
--- src/lib.rt:50:21
+-- src/lib.rt:82:21
 cast-a : tie.Need-cast-a
 cast-a c = search needs
 
--- src/lib.rt:51:21
+-- src/lib.rt:83:21
 cast-b : tie.Need-cast-b
 cast-b c = search needs
 
--- src/lib.rt:53:13
+-- src/lib.rt:85:13
 sub-result-3 : tie.Need-sub-result-3
 sub-result-3 c = within (c .before) .0
 
--- src/lib.rt:53:13
+-- src/lib.rt:85:13
 part-result-start-3 : tie.Need-part-result-start-3
 part-result-start-3 c = within (c .before) .0
 
--- src/lib.rt:53:13
+-- src/lib.rt:85:13
 part-result-end-3 : tie.Need-part-result-end-3
 part-result-end-3 c = within (c .before) .1
 
--- src/lib.rt:56:13
+-- src/lib.rt:88:13
 enum-told : tie.Need-enum-told
 enum-told c = search needs
 
--- src/lib.rt:57:13
+-- src/lib.rt:89:13
 sub-result-4 : tie.Need-sub-result-4
 sub-result-4 c = search needs
 
--- src/lib.rt:57:13
+-- src/lib.rt:89:13
 part-result-start-4 : tie.Need-part-result-start-4
 part-result-start-4 c = search needs
 
--- src/lib.rt:57:13
+-- src/lib.rt:89:13
 part-result-end-4 : tie.Need-part-result-end-4
 part-result-end-4 c = search needs
 
--- src/lib.rt:35:1
+-- src/lib.rt:67:1
 returns-3 : tie.Need-returns-3
 unfolding partAnswer firstAnswer partOf
 returns-3 c = hands-back (ap (partOf _) (checked-past _ _ _ (formed (c .before .before .before .before .before .before)) (c .before .before .before .before .before .if2 .left) ∙ ap given (sym (found (c .before .before .before .before)) ∙ ap foundOf (c .before .before .found .given .1))))
     (record { outcome = refl; block = refl; place = omega arith; bytes = cut (c .before .before .found .given .0 .0) (c .before .before .found .given .0 .1 .0) (c .before .before .before .before .before .before .before .before .before .before .before .args .text .now) })
 
--- src/lib.rt:35:1
+-- src/lib.rt:67:1
 returns-4 : tie.Need-returns-4
 unfolding partAnswer firstAnswer partOf
 returns-4 c = let t = c .before .before .before .before .before .before .before .before .before .before .args .text .now in

@@ -3,9 +3,8 @@ use mathlib.Core.Path.{_≡_, refl, ap, sym, subst, _∙_}
 use Prim.Native.Nat.{ℕ, _+_, _-_, _≤_, _<_}
 use native.Mathlib.Omega.{arith}
 use lib.ListN.{length, getD-replicate}
-use Rattle.rules.specs.Table as rule
 use Rattle.finders.specs.Ahead.{lent}
-use Rattle.finders.specs.Run.{outcome, Kept}
+use Rattle.finders.specs.Run.{firstFrom, outcome, Kept}
 use Rattle.finders.proofs.KeptLaws.{kept-none}
 use Rattle.finders.proofs.RunLaws.{outcome-none, opened-over}
 use Rattle.finders.proofs.run.read_on.Statement.{statement}
@@ -17,52 +16,52 @@ use Rattle.finders.proofs.run.close_at_end.Reads as close-at-end-reads
 use Rattle.finders.proofs.run.open_at.Reads as open-at-reads
 
 abbrev Inv-loop : tie.InvT-loop
-Inv-loop known cells marks text rows₀ froms₀ stamps₀ len₀ best₀ p₀ rows froms stamps len best p = (p ≤ length text) × (Kept (known .count) rows froms stamps len (p + 1) × (rule.first (lent known marks cells) text ≡ outcome (lent known marks cells) text rows froms len best p p))
+Inv-loop known cells marks text from rows₀ froms₀ stamps₀ len₀ best₀ p₀ rows froms stamps len best p = (p ≤ length text) × (Kept (known .count) rows froms stamps len (p + 1) × (firstFrom (lent known marks cells) text from ≡ outcome (lent known marks cells) text rows froms len best p p))
 
 abbrev μ-loop : tie.MeasureT-loop
-μ-loop known cells marks text rows₀ froms₀ stamps₀ len₀ best₀ p₀ rows froms stamps len best p = length text - p
+μ-loop known cells marks text from rows₀ froms₀ stamps₀ len₀ best₀ p₀ rows froms stamps len best p = length text - p
 
 at-end : (c : tie.After-loop Inv-loop μ-loop) → c .before .loop .p ≡ length (c .before .before .before .before .before .args .text .now)
 at-end c = omega arith
 
--- src/run.rt:127:5
+-- src/run.rt:124:5
 loop-holds : tie.Need-loop-holds Inv-loop μ-loop
-loop-holds c = (omega arith, (kept-none _ _ _ (c .before .before .before .pre .well .few-rows) (c .before .before .before .pre .well .few-rows) (c .before .before .before .pre .well .few-rows) (λ q l. omega (arith, getD-replicate {A = ℕ} 1024 q 0 0 (omega arith))), outcome-none _ _ _ _))
+loop-holds c = (c .before .before .before .pre .1, (kept-none _ _ _ (c .before .before .before .pre .0 .well .few-rows) (c .before .before .before .pre .0 .well .few-rows) (c .before .before .before .pre .0 .well .few-rows) (λ q l. omega (arith, getD-replicate {A = ℕ} 1024 q 0 0 (omega arith))), outcome-none _ _ _ _ _))
 
--- src/run.rt:128:9
+-- src/run.rt:125:9
 open-at-requires : tie.Need-open-at-requires Inv-loop μ-loop
-open-at-requires c κs = (c .before .before .before .before .before .before .before .before .pre, (c .before .before .before .before .loop .inv .1 .0, omega arith))
+open-at-requires c κs = (c .before .before .before .before .before .before .before .before .pre .0, (c .before .before .before .before .loop .inv .1 .0, omega arith))
 
--- src/run.rt:130:13
+-- src/run.rt:127:13
 returns : tie.Need-returns Inv-loop μ-loop
 returns c = opened-over _ _ (c .before .open-at .ensures) (c .before .before .before .before .before .before .loop .inv .1 .1) (c .if1 .taken)
 
--- src/run.rt:132:13
+-- src/run.rt:129:13
 advance-requires : tie.Need-advance-requires Inv-loop μ-loop
-advance-requires c κs = (c .before .before .before .before .before .before .before .before .before .before .before .before .before .pre, (c .before .before .before .before .open-at .ensures .kept, c .before .before .before .before .before .before .before .before .loop-test .taken))
+advance-requires c κs = (c .before .before .before .before .before .before .before .before .before .before .before .before .before .pre .0, (c .before .before .before .before .open-at .ensures .kept, c .before .before .before .before .before .before .before .before .loop-test .taken))
 
--- src/run.rt:135:9
+-- src/run.rt:132:9
 add-p : tie.Need-add-p Inv-loop μ-loop
 add-p c = search needs
 
--- src/run.rt:127:5
+-- src/run.rt:124:5
 loop-less : tie.Need-loop-less Inv-loop μ-loop
 loop-less c = search needs
 
--- src/run.rt:127:5
+-- src/run.rt:124:5
 loop-again : tie.Need-loop-again Inv-loop μ-loop
 loop-again c = (omega arith, (c .advance .ensures .kept, c .before .before .before .before .before .before .before .before .before .before .loop .inv .1 .1 ∙ sym (c .advance .ensures .same ∙ c .before .before .before .before .before .open-at .ensures .same)))
 
--- src/run.rt:137:5
+-- src/run.rt:134:5
 open-at-requires-2 : tie.Need-open-at-requires-2 Inv-loop μ-loop
-open-at-requires-2 c κs = (c .before .before .before .before .before .before .before .before .pre, (c .before .before .before .before .loop .inv .1 .0, c .before .before .before .before .loop .inv .0))
+open-at-requires-2 c κs = (c .before .before .before .before .before .before .before .before .pre .0, (c .before .before .before .before .loop .inv .1 .0, c .before .before .before .before .loop .inv .0))
 
--- src/run.rt:138:5
+-- src/run.rt:135:5
 close-at-end-requires : tie.Need-close-at-end-requires Inv-loop μ-loop
 close-at-end-requires c κs = let o = c .before .before .before .open-at2 in
-    (c .before .before .before .before .before .before .before .before .before .before .before .before .pre, subst (λ (n : ℕ). Kept (c .before .before .before .before .before .before .before .before .before .before .before .before .args .known .count) (o .last .1 .1 .1 .1 .0) (o .last .1 .1 .1 .1 .1 .0) (o .last .1 .1 .1 .1 .1 .1 .0) (o .result) (n + 1)) (at-end (c .before .before .before .before .before .before .before)) (o .ensures .kept))
+    (c .before .before .before .before .before .before .before .before .before .before .before .before .pre .0, subst (λ (n : ℕ). Kept (c .before .before .before .before .before .before .before .before .before .before .before .before .args .known .count) (o .last .1 .1 .1 .1 .0) (o .last .1 .1 .1 .1 .1 .0) (o .last .1 .1 .1 .1 .1 .1 .0) (o .result) (n + 1)) (at-end (c .before .before .before .before .before .before .before)) (o .ensures .kept))
 
--- src/run.rt:117:1
+-- src/run.rt:113:1
 returns-2 : tie.Need-returns-2 Inv-loop μ-loop
 returns-2 c = let A = c .before .before .before .before .before .before .before .before .before .before .before .before .before .args in
     let o = c .before .before .before .before .open-at2 in
