@@ -1,0 +1,6 @@
+pub mod EntryLaws
+pub mod DrawnLaws
+pub mod BuiltLaws
+pub mod CopyLaws
+pub mod PartLaws
+pub mod TreeLaws

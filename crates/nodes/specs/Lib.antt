@@ -1,0 +1,4 @@
+pub mod Nodes
+pub mod Entries
+pub mod Fragments
+pub mod Built

@@ -1,0 +1,41 @@
+// Reading a pattern: its tree as a program, or refusal 1 to 9 with its place.
+ghost use Rattle.reader.specs.Reading.{ReadAs};
+
+mod byte_set;
+mod class;
+mod count;
+mod escape;
+mod program;
+mod sign;
+mod tree;
+
+pub use byte_set::ByteSet;
+pub use count::Repeat;
+use kinds::PATTERN_MOST;
+use kinds::Refusal;
+pub use program::Op;
+pub use program::atom_set;
+pub use program::operation;
+use tree::Got;
+
+// The longest program: at most two words for each byte of a pattern, and one.
+pub const PROGRAM_MOST: usize = 2 * PATTERN_MOST + 1;
+
+// The length of the program in words; or why the pattern is turned away.
+pub enum Reading {
+    Program(usize),
+    Refused(Refusal),
+}
+
+// Writes the program of the pattern's tree to the start of `program`.
+pub fn read_pattern(pattern: &[u8], program: &mut [u64; PROGRAM_MOST]) -> Reading
+    ensures { λ r. ⌜ ReadAs (now (pattern .entry)) (now (program .exit)) r ⌝ }
+{
+    if PATTERN_MOST < pattern.len() {
+        return Reading::Refused(Refusal::TooLong);
+    }
+    match tree::read_branches(pattern, 0, 0, program, 0) {
+        Got::Read(_, n) => Reading::Program(n),
+        Got::Bad(number, place) => Reading::Refused(kinds::reading(number, place as u32)),
+    }
+}
