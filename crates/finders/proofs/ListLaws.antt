@@ -1,23 +1,21 @@
 -- The list of first: what its entries lead to, and how it is kept as a row joins it.
-use mathlib.Core.Path.{_≡_, refl, ap, sym, subst, _∙_}
-use mathlib.Core.Logic.{_≢_, ⊎-elim}
+use mathlib.Core.Path.{_≡_, refl, ap, sym, _∙_}
 use mathlib.Core.Bool.{Bool, true, false, true≢false}
-use mathlib.Core.List.{List, []}
+use mathlib.Core.List.{List}
 use mathlib.Core.Option.{Option, none, some}
-use Prim.Native.Nat.{ℕ, zero, suc, _+_, _-_, _≤_, _<_}
+use Prim.Native.Nat.{ℕ, zero, suc, _+_, _≤_, _<_}
 use native.Mathlib.Numerals.{add-one}
 use native.Mathlib.Nat.{add-zero}
-use native.Mathlib.Decide.{decLt, ℕ-discrete}
+use native.Mathlib.Decide.{ℕ-discrete}
 use native.Mathlib.Omega.{arith}
-use lib.ListN.{length, getD, set, drop}
+use lib.ListN.{length, getD, drop}
 use lib.Seq.{drop-length}
 use Rattle.rules.specs.Tools.{guard, orElse, ifSome}
-use Rattle.rules.specs.Table.{Table, cell, begins, fits}
-use Rattle.rules.proofs.Pigeon.{pigeon}
+use Rattle.rules.specs.Table.{Table, cell, fits}
 use Rattle.finders.specs.declared.run.Found.{Found}
 use Rattle.finders.specs.declared.run.Found.the-variants as found
 use Rattle.finders.specs.Ahead.{mark, ahead, Stuck}
-use Rattle.finders.specs.Run.{foundOf, lastEnd, orMatch, firstOfList, firstFrom, otherwise, Kept, Joined}
+use Rattle.finders.specs.Run.{foundOf, lastEnd, orMatch, firstOfList, otherwise}
 use Rattle.finders.proofs.AheadLaws.{drop-next, ahead-stuck, drop-bytes}
 use Rattle.finders.proofs.StartsLaws.{isSome, some-ahead, first-none}
 

@@ -10,7 +10,6 @@ use lib.ListN.{length, getD}
 use Rattle.rules.specs.Table.{Table, cell, begins, fits}
 use Rattle.finders.specs.declared.run.Found.{Found}
 use Rattle.finders.specs.declared.run.Found.the-variants as found
-use Rattle.finders.specs.declared.run.Step.{Step}
 use Rattle.finders.specs.Ahead.{mark, Stuck}
 use Rattle.finders.specs.Run.{foundOf, orMatch, firstOfList, firstFrom, otherwise, outcome, Kept, Joined, Opened, Carried, Advanced}
 use Rattle.finders.proofs.StartsLaws.{first-at}

@@ -1,12 +1,12 @@
 -- First, read in one pass with a list of rows: what an entry of the list leads to, and how the list is kept.
 use mathlib.Core.Path.{_≡_}
-use mathlib.Core.Bool.{Bool, true, false}
+use mathlib.Core.Bool.{true, false}
 use mathlib.Core.List.{List, [], _∷_}
 use mathlib.Core.Option.{Option, none, some}
 use Prim.Native.Nat.{ℕ, zero, suc, _+_, _≤_, _<_}
 use lib.ListN.{length, getD, drop}
 use Rattle.rules.specs.Tools.{guard, orElse, ifSome}
-use Rattle.rules.specs.Table.{Table, cell, begins, fits, longest}
+use Rattle.rules.specs.Table.{Table, cell, fits, longest}
 use Rattle.finders.specs.declared.run.Step.{Step}
 use Rattle.finders.specs.declared.run.Found.{Found}
 use Rattle.finders.specs.declared.run.Found.the-variants as found

@@ -1,24 +1,23 @@
 -- What the listing program prints is the listing of what compiling leaves in the room, and how long it gets.
-use mathlib.Core.Path.{_≡_, refl, sym, ap, ap₂, _∙_}
-use mathlib.Core.Logic.{_⊎_, inl, inr, ⊎-elim}
-use mathlib.Core.Bool.{Bool, true}
-use mathlib.Core.List.{List, [], _∷_, _++_, map}
+use mathlib.Core.Path.{_≡_, refl, ap, ap₂, _∙_}
+use mathlib.Core.Logic.{inl, inr}
+use mathlib.Core.List.{List, _++_, map}
 use Prim.Native.Nat.{ℕ, zero, suc, _+_, _*_, _≤_, _<_}
 use native.Mathlib.Decide.{decLt}
 use native.Mathlib.Omega.{arith}
-use lib.ListN.{length, getD, take, drop, length-append, List·getD-append}
-use lib.Seq.{slice, take-append-le}
+use lib.ListN.{length, drop, length-append}
+use lib.Seq.{take-append-le}
 use Rattle.rules.specs.Tools.{bytesOf, upFrom, flat}
 use Rattle.rules.specs.Sizes.{patternMost, listingRows}
 use Rattle.rules.specs.Turned.{Turned, Fault, two, twoBrace, three, four, five, six, seven, eight, nine}
 use Rattle.rules.specs.Table.{Table, WellFormed}
 use Rattle.rules.specs.Answers.{Refusal, refusal, Answer, refused, given, FirstDue}
-use Rattle.rules.specs.Compile.{Room, rowsFor, over, leaves, drawn, compile, CompileRefusals, TooLong}
+use Rattle.rules.specs.Compile.{Room, rowsFor, leaves, drawn, compile, CompileRefusals}
 use Rattle.rules.specs.Listing.{lineEnd, decimal, rowLine, listing, withoutLineEnd, roomFor, printed}
 use Rattle.rules.proofs.TableLaws.{well-formed-test}
+use Rattle.rules.proofs.LentTable.{longer, marks-alike, longer-formed}
 use Rattle.rules.proofs.CompiledTable.{rows-few}
 use Rattle.rules.proofs.CompileOnce.{demand-1, demand-2, when-given}
-use Rattle.table.specs.Lent.{tableOf}
 use Rattle.writing.proofs.Cases.{if-true}
 use Rattle.writing.proofs.Numbers.{decimal-short}
 use Rattle.writing.specs.Texts.{ifFormed}
@@ -33,40 +32,18 @@ rows-alike f g n (suc c) h = ap₂ {C = List ℕ} _++_ (h n (omega arith)) (rows
 -- ---- what is lent past a table's rows plays no part
 
 module _ {w : Table} (f : WellFormed w) (ms cs : List ℕ) where
-  abbrev pub longer : Table
-  longer = tableOf (w .count) (w .head) (w .marks ++ ms) (w .cells ++ cs)
+  line-alike : (q : ℕ) → q < w .count → rowLine (longer f ms cs) q ≡ rowLine w q
+  line-alike q h = ap₂ {C = List ℕ} (lineOf q) (marks-alike f ms cs q h) (ap (drop (256 * q)) (take-append-le (256 * q + 256) (w .cells) cs (omega (arith, f .formed .cells-long))))
 
-  cells-alike : (i : ℕ) → i < 256 * w .count → getD (w .cells ++ cs) i 0 ≡ getD (w .cells) i 0
-  cells-alike i h = List·getD-append (w .cells) cs 0 i (omega (arith, f .formed .cells-long))
-
-  marks-alike : (q : ℕ) → q < w .count → getD (w .marks ++ ms) q 0 ≡ getD (w .marks) q 0
-  marks-alike q h = List·getD-append (w .marks) ms 0 q (omega (arith, f .formed .marks-long))
-
-  pub longer-formed : WellFormed longer
-  longer-formed = record {
-    formed = record {
-      some-row = f .formed .some-row;
-      marks-long = omega (arith, f .formed .marks-long, length-append (w .marks) ms);
-      cells-long = omega (arith, f .formed .cells-long, length-append (w .cells) cs);
-      head-row = f .formed .head-row;
-      cells-rows = λ i h. rw (cells-alike i h) (f .formed .cells-rows i h);
-      marks-good = λ q h. rw (marks-alike q h) (f .formed .marks-good q h);
-    };
-    few-rows = f .few-rows;
-  }
-
-  line-alike : (q : ℕ) → q < w .count → rowLine longer q ≡ rowLine w q
-  line-alike q h = ap₂ {C = List ℕ} (lineOf q) (marks-alike q h) (ap (drop (256 * q)) (take-append-le (256 * q + 256) (w .cells) cs (omega (arith, f .formed .cells-long))))
-
-  listing-alike : listing (given longer) ≡ listing (given w)
+  listing-alike : listing (given (longer f ms cs)) ≡ listing (given w)
   unfolding listing
   listing-alike =
       ap (λ (l : List ℕ). bytesOf "rows " ++ decimal (w .count) ++ bytesOf " head " ++ decimal (w .head) ++ lineEnd ++ l)
-      (rows-alike (rowLine longer) (rowLine w) 0 (w .count) (λ q h. line-alike q (omega arith)))
+      (rows-alike (rowLine (longer f ms cs)) (rowLine w) 0 (w .count) (λ q h. line-alike q (omega arith)))
 
-  longer-listed : listingOf longer ≡ given (listing (given w))
+  longer-listed : listingOf (longer f ms cs) ≡ given (listing (given w))
   unfolding ifFormed
-  longer-listed = if-true _ _ (well-formed-test longer .1 longer-formed) ∙ ap given listing-alike
+  longer-listed = if-true _ _ (well-formed-test (longer f ms cs) .1 (longer-formed f ms cs)) ∙ ap given listing-alike
 
 pub outcome-printed : (input : List ℕ) → outcomeText listingOf (compile (withoutLineEnd input) (roomFor listingRows)) ≡ given (printed input)
 unfolding printed compile outcomeText leaves

@@ -6,8 +6,8 @@ ghost use lib.ListN.{length, replicate};
 ghost use Rattle.rules.specs.Sizes.{rowsMost};
 ghost use Rattle.sets.specs.Sets.{member};
 ghost use Rattle.merge.specs.Dirty.{rowWords, AfterRound, Below, Stayed, Noted};
-use crate::rows::ROW_WORDS;
-use crate::rows::ROWS;
+use crate::grid::ROW_WORDS;
+use crate::grid::ROWS;
 use sets;
 
 // Every row is dirty.

@@ -4,19 +4,19 @@ ghost use lib.ListN.{length, take};
 ghost use Rattle.rules.specs.Grid.{Grid};
 ghost use Rattle.rules.specs.Compiled.{merged};
 ghost use Rattle.merge.specs.Merge.{rowsOf, Lent, Room, Stands};
+use grid::ROW_WORDS;
+use grid::ROWS;
 use kinds::Row;
-use rows::ROW_WORDS;
-use rows::ROWS;
 
 mod classes;
 mod columns;
 mod dirty;
+mod grid;
 mod lower;
 mod marks;
 mod numbers;
 mod preds;
 mod rounds;
-mod rows;
 
 // The rows of the merged table, and its head row.
 pub struct Merged {

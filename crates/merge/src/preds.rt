@@ -4,8 +4,8 @@ ghost use Prim.Native.Nat.{ℕ, _*_, _<_};
 ghost use lib.ListN.{length};
 ghost use Rattle.merge.specs.Rounds.{Rows};
 ghost use Rattle.merge.specs.Dirty.{rowWords, Grown, RowListed};
-use crate::rows::ROWS;
-use crate::rows::target;
+use crate::grid::ROWS;
+use crate::grid::target;
 use sets;
 
 // Puts row i down at each of its targets.

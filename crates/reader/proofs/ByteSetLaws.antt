@@ -199,10 +199,10 @@ either-test : (a b : Bool) → T (a || b) → T a ⊎ T b
 either-test true b h = inl h
 either-test false b h = inr h
 
-left-test : (a b : Bool) → T a → T (a || b)
+pub left-test : (a b : Bool) → T a → T (a || b)
 left-test true b h = tt
 
-right-test : (a b : Bool) → T b → T (a || b)
+pub right-test : (a b : Bool) → T b → T (a || b)
 right-test true b h = tt
 right-test false b h = h
 

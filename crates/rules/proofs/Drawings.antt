@@ -3,17 +3,17 @@ use mathlib.Core.Path.{_≡_, sym, subst}
 use mathlib.Core.Logic.{_↔_}
 use mathlib.Core.List.{List}
 use mathlib.Core.Option.{Option, none, some}
-use Prim.Native.Nat.{ℕ}
+use Prim.Native.Nat.{ℕ, _≤_}
 use lib.Dec.{T, eqb}
 use lib.ListN.{length}
 use lib.Seq.{slice}
 use Rattle.rules.specs.Tree.{Tree}
-use Rattle.rules.specs.Meaning.{Match, Matches, IsLongest, IsFirst, IsStarts}
+use Rattle.rules.specs.Meaning.{Match, IsLongest, IsFirst, IsStarts}
 use Rattle.rules.specs.SetRows.{machine, markOf}
 use Rattle.rules.specs.Table.{Table, fits, takes, Takes, Formed, longest, first, starts}
-use Rattle.rules.specs.Drawing.{Bytes, Right, Alike, SameMatches, Smallest, Merged, Numbered, Exact, Drawing}
+use Rattle.rules.specs.Drawing.{Right, Alike, SameMatches, Smallest, Merged, Numbered, Exact, Drawing}
 use Rattle.rules.specs.Compiled.{compiled}
-use Rattle.rules.specs.Demands.{TableRight, AnswersRight, OneTable}
+use Rattle.rules.specs.Demands.{TableRight, AnswersBy, AnswersRight, OneTable}
 use Rattle.rules.proofs.Answers.{whole-is, longest-is, starts-is, first-is}
 use Rattle.rules.proofs.CompiledTable.{G, mark-reached}
 use Rattle.rules.proofs.MergedTable.{merged-good, merged-exact, merged-apart, merged-numbered}
@@ -45,19 +45,27 @@ module _ (M N : ℕ → ℕ → Type 0) (to : (s e : ℕ) → M s e → N s e) (
     ascending = h .ascending;
   }
 
-pub answers-right : (X : Tree) (t : List ℕ) → Bytes t → AnswersRight X t
-answers-right X t h = record {
-  whole-right = (λ b. to 0 (length t) (whole-is (compiled X) t .0 b), λ m. whole-is (compiled X) t .1 (fro 0 (length t) m));
-  longest-right = λ s. longest-too (Takes (compiled X) t) (Matches X t) to fro s (longest (compiled X) t s) (longest-is (compiled X) t s);
-  first-right = first-too (Takes (compiled X) t) (Matches X t) to fro (first (compiled X) t) (first-is (compiled X) t);
-  starts-right = starts-too (Takes (compiled X) t) (Matches X t) to fro (starts (compiled X) t) (starts-is (compiled X) t);
+-- so a table that takes what a rule says has the rule's answers
+pub answers-by : (M : ℕ → ℕ → Type 0) (w : Table) (t : List ℕ) → ((s e : ℕ) → s ≤ e → e ≤ length t → T (takes w t s e) ↔ M s e)
+    → AnswersBy (λ s e. (s ≤ e) × (e ≤ length t) × M s e) w t
+answers-by M w t h = record {
+  whole-right = (λ b. to 0 (length t) (whole-is w t .0 b), λ m. whole-is w t .1 (fro 0 (length t) m));
+  longest-right = λ s. longest-too (Takes w t) N to fro s (longest w t s) (longest-is w t s);
+  first-right = first-too (Takes w t) N to fro (first w t) (first-is w t);
+  starts-right = starts-too (Takes w t) N to fro (starts w t) (starts-is w t);
 }
   where
-    to : (s e : ℕ) → Takes (compiled X) t s e → Matches X t s e
-    to s e x = (x .0, x .1, table-right X t h s e (x .0) (x .1) .0 (x .2))
+    N : ℕ → ℕ → Type 0
+    N s e = (s ≤ e) × (e ≤ length t) × M s e
 
-    fro : (s e : ℕ) → Matches X t s e → Takes (compiled X) t s e
-    fro s e x = (x .0, x .1, table-right X t h s e (x .0) (x .1) .1 (x .2))
+    to : (s e : ℕ) → Takes w t s e → N s e
+    to s e x = (x .0, x .1, h s e (x .0) (x .1) .0 (x .2))
+
+    fro : (s e : ℕ) → N s e → Takes w t s e
+    fro s e x = (x .0, x .1, h s e (x .0) (x .1) .1 (x .2))
+
+pub answers-right : AnswersRight
+answers-right X t h = answers-by (Match t X) (compiled X) t (table-right X t h)
 
 -- ---- demand 3, of a tree
 

@@ -32,6 +32,7 @@ pub mod Drawings
 -- the entry points
 pub mod Answers
 pub mod TableLaws
+pub mod LentTable
 pub mod Refusals
 pub mod MatchersOnce
 pub mod CompileOnce

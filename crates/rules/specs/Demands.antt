@@ -2,14 +2,14 @@
 use mathlib.Core.Path.{_≡_}
 use mathlib.Core.Logic.{_⊎_, _↔_}
 use mathlib.Core.List.{List}
-use Prim.Native.Nat.{ℕ}
+use Prim.Native.Nat.{ℕ, _≤_}
 use lib.Dec.{T}
 use lib.ListN.{length}
 use Rattle.rules.specs.Tree.{Tree}
 use Rattle.rules.specs.Grammar.{Legal}
 use Rattle.rules.specs.Meaning.{Match, Matches, IsWhole, IsLongest, IsFirst, IsStarts}
 use Rattle.rules.specs.Table.{Table, takes, WellFormed, whole, longest, first, starts}
-use Rattle.rules.specs.Drawing.{OnStretches, Right, SameMatches, Smallest}
+use Rattle.rules.specs.Drawing.{Bytes, OnStretches, Right, SameMatches, Smallest}
 use Rattle.rules.specs.Turned.{Turned}
 use Rattle.rules.specs.Answers.{Refusal, refused, given, FirstDue}
 use Rattle.rules.specs.Compile.{Room, CompileRefusals, drawn}
@@ -28,12 +28,16 @@ pub record ExactlyOne (p : List ℕ) : Type 0 where
 abbrev pub TableRight : Type 0
 TableRight = (X : Tree) → Right (compiled X) X
 
+-- the four answers over the table w are those of the rule M
+pub record AnswersBy (M : ℕ → ℕ → Type 0) (w : Table) (t : List ℕ) : Type 0 where
+  pub whole-right : IsWhole M (length t) (whole w t)
+  pub longest-right : (s : ℕ) → IsLongest M s (longest w t s)
+  pub first-right : IsFirst M (first w t)
+  pub starts-right : IsStarts M (starts w t)
+
 -- so the four answers over it are those of the meaning
-pub record AnswersRight (X : Tree) (t : List ℕ) : Type 0 where
-  pub whole-right : IsWhole (Matches X t) (length t) (whole (compiled X) t)
-  pub longest-right : (s : ℕ) → IsLongest (Matches X t) s (longest (compiled X) t s)
-  pub first-right : IsFirst (Matches X t) (first (compiled X) t)
-  pub starts-right : IsStarts (Matches X t) (starts (compiled X) t)
+abbrev pub AnswersRight : Type 0
+AnswersRight = (X : Tree) (t : List ℕ) → Bytes t → AnswersBy (Matches X t) (compiled X) t
 
 -- two trees have one table exactly when they match the same stretches of all texts
 abbrev pub OneTable : Type 0
@@ -44,6 +48,10 @@ OneTable = (X Y : Tree) → (compiled X ≡ compiled Y) ↔ SameMatches X Y
 -- the pattern p matches the stretch of t from s to e
 abbrev pub PatternMatch : List ℕ → List ℕ → ℕ → ℕ → Type 0
 PatternMatch p t s e = (X : Tree) × Legal p X × Match t X s e
+
+-- with its places in order
+abbrev pub PatternMatches : List ℕ → List ℕ → ℕ → ℕ → Type 0
+PatternMatches p t s e = (s ≤ e) × (e ≤ length t) × PatternMatch p t s e
 
 -- 1: each refusal is given exactly when its condition holds and none ahead of it does
 abbrev pub Demand1 : Type 0

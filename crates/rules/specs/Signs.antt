@@ -1,5 +1,5 @@
 -- "The pattern language": the special bytes, what `.` stands for, digits, escapes of two bytes, named classes.
-use mathlib.Core.Bool.{Bool, _&&_, _||_, not}
+use mathlib.Core.Bool.{Bool, _&&_, not, _||_}
 use mathlib.Core.List.{List, [], _∷_, _++_}
 use mathlib.Core.Option.{Option, none, some}
 use Prim.Native.Nat.{ℕ, _-_, _^_}

@@ -2,14 +2,14 @@
 use mathlib.Core.Path.{_≡_, sym, ap, ap₂, subst, _∙_}
 use mathlib.Core.Bool.{Bool, true, false}
 use mathlib.Core.List.{List, _++_}
-use Prim.Native.Nat.{ℕ, _+_, _≤_}
+use Prim.Native.Nat.{ℕ, _≤_}
 use native.Mathlib.Nat.{zero-add}
 use native.Mathlib.Omega.{arith}
 use borrow.Author.Tests.{le-leb}
 use lib.Dec.{T, leb}
 use lib.ListN.{length, take, drop, length-append}
 use lib.Seq.{length-sets, take-all, take-append-seam}
-use Rattle.rules.specs.Answers.{refusal, Answer, refused, given}
+use Rattle.rules.specs.Answers.{Answer, refused, given}
 use Rattle.rules.specs.Table.{Table, wellFormed}
 use Rattle.kinds.specs.Refusals.{refusalOf}
 use Rattle.kinds.specs.declared.Refusal.{Refusal}

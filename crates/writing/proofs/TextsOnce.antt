@@ -5,14 +5,14 @@ use mathlib.Core.Bool.{Bool, true, false}
 use mathlib.Core.List.{List}
 use Prim.Native.Nat.{ℕ}
 use native.Mathlib.Omega.{arith}
-use Rattle.rules.specs.Table.{Table, wellFormed, WellFormed}
+use Rattle.rules.specs.Table.{Table, wellFormed}
 use Rattle.rules.specs.Answers.{Refusal, refusal, Answer, refused, given}
 use Rattle.rules.specs.Matchers.{NotFormed}
 use Rattle.rules.proofs.TableLaws.{well-formed-test}
 use Rattle.kinds.proofs.RefusalsApart.{back, back-of}
 use Rattle.writing.specs.declared.Text.{Text}
 use Rattle.writing.specs.declared.Text.the-variants.{Refused, Written, Longer}
-use Rattle.writing.specs.Texts.{textOf, Shown, shown, shownIn, ifFormed}
+use Rattle.writing.specs.Texts.{textOf, Shown, shown, ifFormed}
 
 -- the answer that says it
 abbrev text-back : Answer (Bool × ℕ) → Text

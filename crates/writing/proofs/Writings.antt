@@ -1,11 +1,11 @@
 -- Laws of writing: pieces one after the other, what is left to write, a text from the buffer's start on.
 use mathlib.Core.Path.{_≡_, refl, sym, ap, ap₂, _∙_}
 use mathlib.Core.List.{List, [], _∷_, _++_}
-use Prim.Native.Nat.{ℕ, zero, suc, _+_, _^_, _<_}
+use Prim.Native.Nat.{ℕ, suc, _+_}
 use native.Mathlib.Nat.{add-zero}
 use native.Mathlib.Omega.{arith}
 use lib.ListN.{length, take, drop, set, length-append}
-use lib.Seq.{sets, length-sets, take-nil, drop-nil}
+use lib.Seq.{sets, length-sets, take-nil}
 use Rattle.writing.specs.Writing.{Room, Writes}
 
 sets-append : (xs ys old : List ℕ) (at : ℕ) → sets old at (xs ++ ys) ≡ sets (sets old at xs) (at + length xs) ys

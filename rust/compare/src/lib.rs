@@ -1,6 +1,8 @@
 //! The proved library beside the paper's words, case by case. A difference stops the run and names the case; the same seed
 //! makes the same cases.
 
+pub mod patterns;
+pub mod readings;
 pub mod tables;
 
 /// Numbers that look random: xorshift.

@@ -1,6 +1,5 @@
-use borrow.Author.Needs.{needs}
 use mathlib.Core.Path.{_≡_, ap, sym, _∙_}
-use Prim.Native.Nat.{ℕ, _+_}
+use Prim.Native.Nat.{_+_}
 use native.Mathlib.Omega.{arith}
 use lib.ListN.{length}
 use Rattle.rules.specs.Table.{Table}
@@ -12,12 +11,6 @@ use Rattle.finders.proofs.StartsLaws.{first-none}
 use Rattle.finders.proofs.TriesLaws.{first-here}
 use Rattle.finders.proofs.find.Statement.{statement}
 use Rattle.finders.proofs.find.Tie as tie
-use Rattle.finders.proofs.find.Reads as reads
-use Rattle.finders.proofs.find.Lts as lts
-use Rattle.finders.proofs.ahead.dead_row.Reads as dead-row-reads
-use Rattle.finders.proofs.run.read_on.Reads as read-on-reads
-use Rattle.finders.proofs.tries.last_match.Reads as last-match-reads
-use Rattle.finders.proofs.tries.try_each.Reads as try-each-reads
 
 abbrev table : tie.Start → Table
 table S = tableOf (S .args .rows) (S .args .head .0) (S .args .marks .now) (S .args .cells .now)

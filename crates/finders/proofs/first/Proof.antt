@@ -1,7 +1,7 @@
 use mathlib.Core.Path.{_≡_, ap, sym, _∙_}
 use mathlib.Core.Bool.{true}
 use borrow.Author.Tests.{not-true, not-false}
-use Rattle.rules.specs.Table.{Table, wellFormed}
+use Rattle.rules.specs.Table.{wellFormed}
 use Rattle.rules.specs.Answers.{given}
 use Rattle.rules.specs.Matchers.{firstAnswer}
 use Rattle.rules.proofs.TableLaws.{checked-13, checked-12, checked-past}
@@ -10,17 +10,9 @@ use Rattle.finders.specs.Run.{foundOf}
 use borrow.Author.Needs.{needs}
 use Rattle.finders.proofs.first.Statement.{statement}
 use Rattle.finders.proofs.first.Tie as tie
-use Rattle.finders.proofs.first.Reads as reads
-use Rattle.finders.proofs.first.Lts as lts
-use Rattle.finders.proofs.find.Reads as find-reads
-use Rattle.table.proofs.well_formed.Reads as well-formed-reads
 
 formed : (c : tie.Else1) → let A = c .before .before .before .before .before .args in wellFormed (tableOf (A .rows) (A .head .0) (A .marks .now) (A .cells .now)) ≡ true
 formed c = sym (c .before .well-formed .ensures) ∙ not-false _ (c .if1 .left)
-
--- src/lib.rt:53:9
-well-formed-requires : tie.Need-well-formed-requires
-well-formed-requires c κs = search needs
 
 -- src/lib.rt:54:9
 returns : tie.Need-returns
@@ -36,14 +28,6 @@ returns-2 c = sym (checked-12 _ _ _ (formed (c .before)) (c .if2 .taken))
 find-requires : tie.Need-find-requires
 find-requires c κs = (formed (c .before), c .if2 .left)
 
--- src/lib.rt:61:22
-enum-known-found : tie.Need-enum-known-found
-enum-known-found c = search needs
-
--- src/lib.rt:62:27
-enum-told : tie.Need-enum-told
-enum-told c = search needs
-
 -- src/lib.rt:50:1
 returns-3 : tie.Need-returns-3
 unfolding firstAnswer
@@ -58,11 +42,11 @@ pub first-spec : {M : Type 1} → statement M
 first-spec =
     tie.close
     (tie.spec
-    well-formed-requires
+    (λ c κs. search needs)
     returns
     returns-2
     find-requires
-    enum-known-found
-    enum-told
+    (λ c. search needs)
+    (λ c. search needs)
     returns-3
     returns-4)

@@ -1,6 +1,5 @@
 use mathlib.Core.Path.{_≡_, refl, ap, sym, _∙_}
 use mathlib.Core.Bool.{true}
-use mathlib.Core.Option.{some}
 use Prim.Native.Nat.{_≤_}
 use native.Mathlib.Omega.{arith}
 use lib.ListN.{length}
@@ -16,10 +15,6 @@ use Rattle.finders.proofs.AnswerLaws.{first-within, cut, hands-back}
 use borrow.Author.Needs.{needs}
 use Rattle.finders.proofs.first_part.Statement.{statement}
 use Rattle.finders.proofs.first_part.Tie as tie
-use Rattle.finders.proofs.first_part.Reads as reads
-use Rattle.finders.proofs.first_part.Lts as lts
-use Rattle.finders.proofs.find.Reads as find-reads
-use Rattle.table.proofs.well_formed.Reads as well-formed-reads
 
 abbrev table : tie.Start → Table
 table S = tableOf (S .args .rows) (S .args .head .0) (S .args .marks .now) (S .args .cells .now)
@@ -34,38 +29,10 @@ found c = c .find .ensures
 within : (c : tie.After-found) → (c .found .given .0 .0 ≤ c .found .given .0 .1 .0) × (c .found .given .0 .1 .0 ≤ length (c .before .before .before .before .before .before .before .before .before .args .text .now))
 within c = first-within _ _ _ _ (sym (found (c .before .before)) ∙ ap foundOf (c .found .given .1))
 
--- src/lib.rt:70:9
-well-formed-requires : tie.Need-well-formed-requires
-well-formed-requires c κs = search needs
-
--- src/lib.rt:72:16
-sub-result : tie.Need-sub-result
-sub-result c = search needs
-
--- src/lib.rt:72:16
-part-result-start : tie.Need-part-result-start
-part-result-start c = search needs
-
--- src/lib.rt:72:16
-part-result-end : tie.Need-part-result-end
-part-result-end c = search needs
-
 -- src/lib.rt:72:9
 returns : tie.Need-returns
 unfolding partAnswer firstAnswer partOf
 returns c = hands-back (ap (partOf _) (checked-13 _ _ _ (sym (c .before .before .well-formed .ensures) ∙ not-true _ (c .before .if1 .taken)))) (record { outcome = refl; block = refl; place = omega arith; bytes = refl })
-
--- src/lib.rt:77:16
-sub-result-2 : tie.Need-sub-result-2
-sub-result-2 c = search needs
-
--- src/lib.rt:77:16
-part-result-start-2 : tie.Need-part-result-start-2
-part-result-start-2 c = search needs
-
--- src/lib.rt:77:16
-part-result-end-2 : tie.Need-part-result-end-2
-part-result-end-2 c = search needs
 
 -- src/lib.rt:77:9
 returns-2 : tie.Need-returns-2
@@ -75,18 +42,6 @@ returns-2 c = hands-back (ap (partOf _) (checked-12 _ _ _ (formed (c .before .be
 -- src/lib.rt:79:9
 find-requires : tie.Need-find-requires
 find-requires c κs = (formed (c .before), c .if2 .left)
-
--- src/lib.rt:81:22
-enum-known-found : tie.Need-enum-known-found
-enum-known-found c = search needs
-
--- src/lib.rt:82:21
-cast-a : tie.Need-cast-a
-cast-a c = search needs
-
--- src/lib.rt:83:21
-cast-b : tie.Need-cast-b
-cast-b c = search needs
 
 -- src/lib.rt:85:13
 sub-result-3 : tie.Need-sub-result-3
@@ -99,22 +54,6 @@ part-result-start-3 c = within (c .before) .0
 -- src/lib.rt:85:13
 part-result-end-3 : tie.Need-part-result-end-3
 part-result-end-3 c = within (c .before) .1
-
--- src/lib.rt:88:13
-enum-told : tie.Need-enum-told
-enum-told c = search needs
-
--- src/lib.rt:89:13
-sub-result-4 : tie.Need-sub-result-4
-sub-result-4 c = search needs
-
--- src/lib.rt:89:13
-part-result-start-4 : tie.Need-part-result-start-4
-part-result-start-4 c = search needs
-
--- src/lib.rt:89:13
-part-result-end-4 : tie.Need-part-result-end-4
-part-result-end-4 c = search needs
 
 -- src/lib.rt:67:1
 returns-3 : tie.Need-returns-3
@@ -133,25 +72,25 @@ pub first-part-spec : {M : Type 1} → statement M
 first-part-spec =
     tie.close
     (tie.spec
-    well-formed-requires
-    sub-result
-    part-result-start
-    part-result-end
+    (λ c κs. search needs)
+    (λ c. search needs)
+    (λ c. search needs)
+    (λ c. search needs)
     returns
-    sub-result-2
-    part-result-start-2
-    part-result-end-2
+    (λ c. search needs)
+    (λ c. search needs)
+    (λ c. search needs)
     returns-2
     find-requires
-    enum-known-found
-    cast-a
-    cast-b
+    (λ c. search needs)
+    (λ c. search needs)
+    (λ c. search needs)
     sub-result-3
     part-result-start-3
     part-result-end-3
-    enum-told
-    sub-result-4
-    part-result-start-4
-    part-result-end-4
+    (λ c. search needs)
+    (λ c. search needs)
+    (λ c. search needs)
+    (λ c. search needs)
     returns-3
     returns-4)

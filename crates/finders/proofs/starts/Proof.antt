@@ -20,12 +20,6 @@ use Rattle.finders.proofs.StartsLaws.{starts-most}
 use borrow.Author.Needs.{needs}
 use Rattle.finders.proofs.starts.Statement.{statement}
 use Rattle.finders.proofs.starts.Tie as tie
-use Rattle.finders.proofs.starts.Reads as reads
-use Rattle.finders.proofs.starts.Lts as lts
-use Rattle.finders.proofs.ahead.dead_row.Reads as dead-row-reads
-use Rattle.finders.proofs.back.count_starts.Reads as count-starts-reads
-use Rattle.finders.proofs.back.list_starts.Reads as list-starts-reads
-use Rattle.table.proofs.well_formed.Reads as well-formed-reads
 
 abbrev table : tie.Start → Table
 table S = tableOf (S .args .rows) (S .args .head .0) (S .args .marks .now) (S .args .cells .now)
@@ -51,10 +45,6 @@ room c =
     let S = c .before .before .before .before .before .before .before .before .before in
     ⊎-elim (λ x. omega (arith, x .1 .ensures, x .2 .left)) (λ x. omega (arith, starts-most (table S) (S .args .text .now), x .left)) (c .if3 .came)
 
--- src/lib.rt:78:9
-well-formed-requires : tie.Need-well-formed-requires
-well-formed-requires c κs = search needs
-
 -- src/lib.rt:79:9
 returns : tie.Need-returns
 unfolding startsAnswer startsFound listedIn
@@ -73,10 +63,6 @@ dead-row-requires c κs = well-formed-test _ .0 (formed (c .before))
 count-starts-requires : tie.Need-count-starts-requires
 count-starts-requires c κs = ready (c .before)
 
--- src/lib.rt:92:25
-cast-if4 : tie.Need-cast-if4
-cast-if4 c = search needs
-
 -- src/lib.rt:93:13
 returns-3 : tie.Need-returns-3
 unfolding listedIn
@@ -89,10 +75,6 @@ returns-3 c = let S = c .before .before .before .before .before .before .before 
 -- src/lib.rt:96:19
 list-starts-requires : tie.Need-list-starts-requires
 list-starts-requires c κs = (ready (c .before .before), room (c .before))
-
--- src/lib.rt:75:1
-same-length : tie.Need-same-length
-same-length c = search needs
 
 -- src/lib.rt:75:1
 returns-4 : tie.Need-returns-4
@@ -108,13 +90,13 @@ pub starts-spec : {M : Type 1} → statement M
 starts-spec =
     tie.close
     (tie.spec
-    well-formed-requires
+    (λ c κs. search needs)
     returns
     returns-2
     dead-row-requires
     count-starts-requires
-    cast-if4
+    (λ c. search needs)
     returns-3
     list-starts-requires
-    same-length
+    (λ c. search needs)
     returns-4)

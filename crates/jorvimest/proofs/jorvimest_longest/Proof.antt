@@ -3,15 +3,6 @@ use borrow.Author.Needs.{needs}
 use Rattle.jorvimest.proofs.jorvimest_longest.Statement.{statement}
 use Rattle.jorvimest.proofs.jorvimest_longest.Tie as tie
 
-longest-requires : tie.Need-longest-requires
-longest-requires c κs = search needs
-
-longest-end-requires : tie.Need-longest-end-requires
-longest-end-requires c κs = search needs
-
-longest-code-requires : tie.Need-longest-code-requires
-longest-code-requires c κs = search needs
-
 returns : tie.Need-returns
 returns c =
     let answer = c .before .before .before .longest .ensures in
@@ -19,4 +10,8 @@ returns c =
 
 pub jorvimest-longest-spec : {M : Type 1} → statement M
 jorvimest-longest-spec =
-    tie.close (tie.spec longest-requires longest-end-requires longest-code-requires returns)
+    tie.close (tie.spec
+    (λ c κs. search needs)
+    (λ c κs. search needs)
+    (λ c κs. search needs)
+    returns)

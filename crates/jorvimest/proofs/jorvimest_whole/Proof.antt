@@ -3,14 +3,11 @@ use borrow.Author.Needs.{needs}
 use Rattle.jorvimest.proofs.jorvimest_whole.Statement.{statement}
 use Rattle.jorvimest.proofs.jorvimest_whole.Tie as tie
 
-whole-requires : tie.Need-whole-requires
-whole-requires c κs = search needs
-
-whole-code-requires : tie.Need-whole-code-requires
-whole-code-requires c κs = search needs
-
 returns : tie.Need-returns
 returns c = cc (c .whole-code .ensures, c .before .whole .ensures)
 
 pub jorvimest-whole-spec : {M : Type 1} → statement M
-jorvimest-whole-spec = tie.close (tie.spec whole-requires whole-code-requires returns)
+jorvimest-whole-spec = tie.close (tie.spec
+    (λ c κs. search needs)
+    (λ c κs. search needs)
+    returns)

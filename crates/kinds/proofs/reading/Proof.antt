@@ -4,8 +4,6 @@ use native.Mathlib.Omega.{arith}
 use Rattle.rules.specs.Answers.{Refusal, refusal}
 use Rattle.kinds.proofs.reading.Statement.{statement}
 use Rattle.kinds.proofs.reading.Tie as tie
-use Rattle.kinds.proofs.reading.Reads as reads
-use Rattle.kinds.proofs.reading.Lts as lts
 
 numbered : {n m i : ℕ} → n ≡ m → refusal m i ≡ refusal n i
 numbered {i = i} e = ap {B = Refusal} (λ (n : ℕ). refusal n i) (sym e)

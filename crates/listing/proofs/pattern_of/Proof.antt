@@ -5,20 +5,10 @@ use lib.ListN.{length-take}
 use Rattle.listing.proofs.Inputs.{line-end-dropped, no-line-end, nothing-left}
 use Rattle.listing.proofs.pattern_of.Statement.{statement}
 use Rattle.listing.proofs.pattern_of.Tie as tie
-use Rattle.listing.proofs.pattern_of.Reads as reads
-use Rattle.listing.proofs.pattern_of.Lts as lts
 
 -- src/input.rt:11:9
 returns : tie.Need-returns
 returns c = nothing-left (c .before .args .input .now) (search needs)
-
--- src/input.rt:13:16
-sub-last : tie.Need-sub-last
-sub-last c = search needs
-
--- src/input.rt:14:8
-shared-slice-read-if2 : tie.Need-shared-slice-read-if2
-shared-slice-read-if2 c = search needs
 
 -- src/input.rt:15:9
 slice-aggregate-result : tie.Need-slice-aggregate-result
@@ -35,4 +25,10 @@ returns-3 c = sym (no-line-end (c .before .before .before .args .input .now) _ (
 pub pattern-of-spec : {M : Type 1} → statement M
 pattern-of-spec =
     tie.close
-    (tie.spec returns sub-last shared-slice-read-if2 slice-aggregate-result returns-2 returns-3)
+    (tie.spec
+    returns
+    (λ c. search needs)
+    (λ c. search needs)
+    slice-aggregate-result
+    returns-2
+    returns-3)

@@ -4,15 +4,6 @@ use lib.ListN.{length-append}
 use Rattle.writing.proofs.Writings.{join}
 use Rattle.listing.proofs.put_row.Statement.{statement}
 use Rattle.listing.proofs.put_row.Tie as tie
-use Rattle.listing.proofs.put_row.Reads as reads
-use Rattle.listing.proofs.put_row.Lts as lts
-use Rattle.listing.proofs.put_runs.Reads as put-runs-reads
-use Rattle.writing.proofs.put.Reads as put-reads
-use Rattle.writing.proofs.put_number.Reads as put-number-reads
-
--- src/lines.rt:52:36
-cast-put-number : tie.Need-cast-put-number
-cast-put-number c = search needs
 
 -- src/lines.rt:52:9
 put-number-requires : tie.Need-put-number-requires
@@ -35,10 +26,6 @@ put-requires-2 : tie.Need-put-requires-2
 put-requires-2 c κs = omega (arith, simp length-append at (c .before .before .before .before .before .before .before .before .before .before .before .before .before .before .before .before .before .before .before .before .pre .1))
 
 -- src/lines.rt:47:1
-same-length : tie.Need-same-length
-same-length c = search needs
-
--- src/lines.rt:47:1
 returns : tie.Need-returns
 returns c = join (join (join (join (c .before .before .before .before .before .before .before .before .before .before .before .before .before .before .before .before .before .before .put-number .ensures) (c .before .before .before .before .before .before .before .before .before .before .before .before .before .before .put .ensures)) (c .before .before .before .before .before .before .before .before .before .before .put-number2 .ensures)) (c .before .before .before .before .before .before .put-runs .ensures)) (c .before .before .put2 .ensures)
 
@@ -46,11 +33,11 @@ pub put-row-spec : {M : Type 1} → statement M
 put-row-spec =
     tie.close
     (tie.spec
-    cast-put-number
+    (λ c. search needs)
     put-number-requires
     put-requires
     put-number-requires-2
     put-runs-requires
     put-requires-2
-    same-length
+    (λ c. search needs)
     returns)

@@ -8,9 +8,6 @@ use Rattle.listing.proofs.LineLaws.{part-line}
 use Rattle.writing.proofs.RowLaws.{part-length, RowsLeft, rows-begin, rows-over, row-room, row-written}
 use Rattle.listing.proofs.put_rows.Statement.{statement}
 use Rattle.listing.proofs.put_rows.Tie as tie
-use Rattle.listing.proofs.put_rows.Reads as reads
-use Rattle.listing.proofs.put_rows.Lts as lts
-use Rattle.listing.proofs.put_row.Reads as put-row-reads
 
 abbrev Inv-loop : tie.InvT-loop
 Inv-loop out₀ at rows cells marks here₀ q₀ out here q = RowsLeft (rowLine (tableOf rows 0 marks cells)) rows out₀ at out here q

@@ -4,14 +4,6 @@ use lib.ListN.{length-append}
 use Rattle.writing.proofs.Writings.{join}
 use Rattle.listing.proofs.put_run.Statement.{statement}
 use Rattle.listing.proofs.put_run.Tie as tie
-use Rattle.listing.proofs.put_run.Reads as reads
-use Rattle.listing.proofs.put_run.Lts as lts
-use Rattle.writing.proofs.put.Reads as put-reads
-use Rattle.writing.proofs.put_number.Reads as put-number-reads
-
--- src/lines.rt:22:9
-put-requires : tie.Need-put-requires
-put-requires c κs = search needs
 
 -- src/lines.rt:23:9
 put-number-requires : tie.Need-put-number-requires
@@ -29,17 +21,9 @@ put-number-requires-2 c κs = omega (arith, simp length-append at (c .before .be
 put-requires-3 : tie.Need-put-requires-3
 put-requires-3 c κs = omega (arith, simp length-append at (c .before .before .before .before .before .before .before .before .before .before .before .before .before .before .before .before .before .before .pre))
 
--- src/lines.rt:27:27
-cast-put-number : tie.Need-cast-put-number
-cast-put-number c = search needs
-
 -- src/lines.rt:27:5
 put-number-requires-3 : tie.Need-put-number-requires-3
 put-number-requires-3 c κs = omega (arith, simp length-append at (c .before .before .before .before .before .before .before .before .before .before .before .before .before .before .before .before .before .before .before .before .before .before .before .pre))
-
--- src/lines.rt:18:1
-same-length : tie.Need-same-length
-same-length c = search needs
 
 -- src/lines.rt:18:1
 returns : tie.Need-returns
@@ -49,12 +33,12 @@ pub put-run-spec : {M : Type 1} → statement M
 put-run-spec =
     tie.close
     (tie.spec
-    put-requires
+    (λ c κs. search needs)
     put-number-requires
     put-requires-2
     put-number-requires-2
     put-requires-3
-    cast-put-number
+    (λ c. search needs)
     put-number-requires-3
-    same-length
+    (λ c. search needs)
     returns)

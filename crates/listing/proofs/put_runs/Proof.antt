@@ -1,20 +1,11 @@
 use borrow.Author.Needs.{needs}
-use mathlib.Core.Path.{_≡_}
-use mathlib.Core.List.{map}
-use Prim.Native.Nat.{_-_, _≤_}
-use native.Mathlib.Omega.{arith}
-use lib.ListN.{length, getD}
-use Rattle.rules.specs.Tools.{flat}
-use Rattle.rules.specs.Listing.{runText, runs}
-use Rattle.writing.specs.Runs.{runOf}
+use Prim.Native.Nat.{_-_}
+use lib.ListN.{length}
+use Rattle.rules.specs.Listing.{runText}
 use Rattle.writing.proofs.Writings.{left-length}
 use Rattle.writing.proofs.RunLaws.{RunsLeft, runs-begin, runs-over, run-room, run-written}
 use Rattle.listing.proofs.put_runs.Statement.{statement}
 use Rattle.listing.proofs.put_runs.Tie as tie
-use Rattle.listing.proofs.put_runs.Reads as reads
-use Rattle.listing.proofs.put_runs.Lts as lts
-use Rattle.listing.proofs.put_run.Reads as put-run-reads
-use Rattle.writing.proofs.run_end.Reads as run-end-reads
 
 abbrev Inv-loop : tie.InvT-loop
 Inv-loop out₀ at cells here₀ lo₀ out here lo = RunsLeft runText cells out₀ at out here lo

@@ -5,38 +5,16 @@ use Rattle.writing.proofs.Writings.{join}
 use Rattle.rules.specs.Listing.{listing}
 use Rattle.listing.proofs.put_table.Statement.{statement}
 use Rattle.listing.proofs.put_table.Tie as tie
-use Rattle.listing.proofs.put_table.Reads as reads
-use Rattle.listing.proofs.put_table.Lts as lts
-use Rattle.listing.proofs.put_rows.Reads as put-rows-reads
-use Rattle.writing.proofs.put.Reads as put-reads
-use Rattle.writing.proofs.put_all.Reads as put-all-reads
-use Rattle.writing.proofs.put_number.Reads as put-number-reads
-
--- src/lines.rt:81:32
-slice-aggregate-put-all : tie.Need-slice-aggregate-put-all
-slice-aggregate-put-all c = search needs
-
--- src/lines.rt:81:9
-put-all-requires : tie.Need-put-all-requires
-put-all-requires c κs = search needs
 
 -- src/lines.rt:82:9
 put-number-requires : tie.Need-put-number-requires
 unfolding listing
 put-number-requires c κs = omega (arith, simp length-append at (c .before .before .before .before .before .before .before .before .before .pre .1))
 
--- src/lines.rt:83:35
-slice-aggregate-put-all-2 : tie.Need-slice-aggregate-put-all-2
-slice-aggregate-put-all-2 c = search needs
-
 -- src/lines.rt:83:9
 put-all-requires-2 : tie.Need-put-all-requires-2
 unfolding listing
 put-all-requires-2 c κs = omega (arith, simp length-append at (c .before .before .before .before .before .before .before .before .before .before .before .before .before .before .pre .1))
-
--- src/lines.rt:84:38
-cast-put-number : tie.Need-cast-put-number
-cast-put-number c = search needs
 
 -- src/lines.rt:84:9
 put-number-requires-2 : tie.Need-put-number-requires-2
@@ -54,10 +32,6 @@ unfolding listing
 put-rows-requires c κs = (c .before .before .before .before .before .before .before .before .before .before .before .before .before .before .before .before .before .before .before .before .before .before .before .before .before .before .before .pre .0, omega (arith, simp length-append at (c .before .before .before .before .before .before .before .before .before .before .before .before .before .before .before .before .before .before .before .before .before .before .before .before .before .before .before .pre .1)))
 
 -- src/lines.rt:76:1
-same-length : tie.Need-same-length
-same-length c = search needs
-
--- src/lines.rt:76:1
 returns : tie.Need-returns
 unfolding listing
 returns c = join (join (join (join (join (c .before .before .before .before .before .before .before .before .before .before .before .before .before .before .before .before .before .before .before .before .before .before .before .before .put-all .ensures) (c .before .before .before .before .before .before .before .before .before .before .before .before .before .before .before .before .before .before .before .before .put-number .ensures)) (c .before .before .before .before .before .before .before .before .before .before .before .before .before .before .before .put-all2 .ensures)) (c .before .before .before .before .before .before .before .before .before .before .put-number2 .ensures)) (c .before .before .before .before .before .before .put .ensures)) (c .before .before .put-rows .ensures)
@@ -66,14 +40,14 @@ pub put-table-spec : {M : Type 1} → statement M
 put-table-spec =
     tie.close
     (tie.spec
-    slice-aggregate-put-all
-    put-all-requires
+    (λ c. search needs)
+    (λ c κs. search needs)
     put-number-requires
-    slice-aggregate-put-all-2
+    (λ c. search needs)
     put-all-requires-2
-    cast-put-number
+    (λ c. search needs)
     put-number-requires-2
     put-requires
     put-rows-requires
-    same-length
+    (λ c. search needs)
     returns)

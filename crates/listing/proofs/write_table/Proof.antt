@@ -1,5 +1,5 @@
 use borrow.Author.Needs.{needs}
-use mathlib.Core.Path.{_≡_, sym, ap, _∙_}
+use mathlib.Core.Path.{_≡_, sym, _∙_}
 use mathlib.Core.Bool.{true}
 use native.Mathlib.Omega.{arith}
 use borrow.Author.Tests.{not-true, not-false}
@@ -10,11 +10,6 @@ use Rattle.listing.proofs.LineLaws.{listing-most}
 use Rattle.writing.proofs.Answered.{formed-shown, unformed-shown}
 use Rattle.listing.proofs.write_table.Statement.{statement}
 use Rattle.listing.proofs.write_table.Tie as tie
-use Rattle.listing.proofs.write_table.Reads as reads
-use Rattle.listing.proofs.write_table.Lts as lts
-use Rattle.writing.proofs.answer.Reads as answer-reads
-use Rattle.listing.proofs.put_table.Reads as put-table-reads
-use Rattle.table.proofs.well_formed.Reads as well-formed-reads
 
 abbrev lent : tie.Start → Table
 lent S = tableOf (S .args .rows) (S .args .head .0) (S .args .marks .now) (S .args .cells .now)
@@ -24,10 +19,6 @@ formed c = sym (c .before .well-formed .ensures) ∙ not-false (c .before .well-
 
 good : (c : tie.Else1) → WellFormed (lent (c .before .before .before .before .before))
 good c = well-formed-test _ .0 (formed c)
-
--- src/lib.rt:47:9
-well-formed-requires : tie.Need-well-formed-requires
-well-formed-requires c κs = search needs
 
 -- src/lib.rt:48:9
 returns : tie.Need-returns
@@ -46,10 +37,6 @@ answer-requires c κs =
     omega (arith, listing-most g)
 
 -- src/lib.rt:44:1
-same-length : tie.Need-same-length
-same-length c = search needs
-
--- src/lib.rt:44:1
 returns-2 : tie.Need-returns-2
 returns-2 c = formed-shown (lent (c .before .before .before .before .before .before .before .before .before .before)) (c .answer .result) (formed (c .before .before .before .before .before)) (c .before .before .before .put-table .ensures) (c .answer .ensures)
 
@@ -57,9 +44,9 @@ pub write-table-spec : {M : Type 1} → statement M
 write-table-spec =
     tie.close
     (tie.spec
-    well-formed-requires
+    (λ c κs. search needs)
     returns
     put-table-requires
     answer-requires
-    same-length
+    (λ c. search needs)
     returns-2)

@@ -78,9 +78,6 @@ slice-aggregate-merge-all-6 c =
     let S = c .before .before .before .before .before .before .before .before .before in
     sym (zeros-front (S .args .rows) (S .pre .few))
 
-slice-aggregate-merge-all-7 : tie.Need-slice-aggregate-merge-all-7
-slice-aggregate-merge-all-7 c = search needs
-
 merge-all-requires : tie.Need-merge-all-requires
 merge-all-requires c κs =
     let S = c .before .before .before .before .before .before .before .before .before .before in
@@ -89,15 +86,6 @@ merge-all-requires c κs =
       front-grid (S .args .cells .now) (S .args .marks .now) n (S .pre .cells-long) (S .pre .marks-long) (S .pre .grid),
       front-room (S .args .cells .now) (S .args .marks .now) n (S .pre .cells-long) (S .pre .marks-long) (S .pre .few) (length-take-le (rowWords * n) (S .args .sets .now) (omega (arith, S .pre .sets-long))) zeros zeros zeros (search needs),
     )
-
-same-length : tie.Need-same-length
-same-length c = search needs
-
-same-length-2 : tie.Need-same-length-2
-same-length-2 c = search needs
-
-same-length-3 : tie.Need-same-length-3
-same-length-3 c = search needs
 
 returns : tie.Need-returns
 returns c =
@@ -130,9 +118,9 @@ merge-spec =
     slice-aggregate-merge-all-5
     array-borrow-prefix-parted
     slice-aggregate-merge-all-6
-    slice-aggregate-merge-all-7
+    (λ c. search needs)
     merge-all-requires
-    same-length
-    same-length-2
-    same-length-3
+    (λ c. search needs)
+    (λ c. search needs)
+    (λ c. search needs)
     returns)

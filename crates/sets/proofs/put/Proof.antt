@@ -11,24 +11,6 @@ use Rattle.sets.specs.Sets.{putIn}
 use Rattle.sets.proofs.put.Statement.{statement}
 use Rattle.sets.proofs.put.Tie as tie
 
-mul-set : tie.Need-mul-set
-mul-set c = search needs
-
-slice-read-set : tie.Need-slice-read-set
-slice-read-set c = search needs
-
-shl-set : tie.Need-shl-set
-shl-set c = search needs
-
-mul-set-2 : tie.Need-mul-set-2
-mul-set-2 c = search needs
-
-slice-write-set : tie.Need-slice-write-set
-slice-write-set c = search needs
-
-same-length : tie.Need-same-length
-same-length c = search needs
-
 returns : tie.Need-returns
 unfolding putIn
 returns c =
@@ -40,4 +22,11 @@ returns c =
 pub put-spec : {M : Type 1} → statement M
 put-spec =
     tie.close
-    (tie.spec mul-set slice-read-set shl-set mul-set-2 slice-write-set same-length returns)
+    (tie.spec
+    (λ c. search needs)
+    (λ c. search needs)
+    (λ c. search needs)
+    (λ c. search needs)
+    (λ c. search needs)
+    (λ c. search needs)
+    returns)

@@ -10,9 +10,6 @@ use Rattle.table.specs.Lent.{tableOf}
 use Rattle.table.proofs.longest.Statement.{statement}
 use Rattle.table.proofs.longest.Tie as tie
 
-well-formed-requires : tie.Need-well-formed-requires
-well-formed-requires c κs = search needs
-
 abbrev lent : tie.Start → Table
 lent S = tableOf (S .args .rows) (S .args .head .0) (S .args .marks .now) (S .args .cells .now)
 
@@ -40,4 +37,10 @@ returns-4 c =
 pub longest-spec : {M : Type 1} → statement M
 longest-spec =
     tie.close
-    (tie.spec well-formed-requires returns returns-2 returns-3 last-end-requires returns-4)
+    (tie.spec
+    (λ c κs. search needs)
+    returns
+    returns-2
+    returns-3
+    last-end-requires
+    returns-4)

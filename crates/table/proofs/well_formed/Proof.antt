@@ -23,25 +23,16 @@ returns-2 c = not-formed _ (λ g. omega arith)
 returns-3 : tie.Need-returns-3
 returns-3 c = not-formed _ (λ g. omega arith)
 
-mul-if4 : tie.Need-mul-if4
-mul-if4 c = search needs
-
 returns-4 : tie.Need-returns-4
 returns-4 c = not-formed _ (λ g. omega arith)
 
 returns-5 : tie.Need-returns-5
 returns-5 c = not-formed _ (λ g. omega arith)
 
-mul-rows-only : tie.Need-mul-rows-only
-mul-rows-only c = search needs
-
 slice-aggregate-rows-only : tie.Need-slice-aggregate-rows-only
 slice-aggregate-rows-only c =
     let a = c .before .before .before .before .before .before .before .before .before .args in
     sym (length-take-le (256 * a .rows) (a .cells .now) (omega arith))
-
-rows-only-requires : tie.Need-rows-only-requires
-rows-only-requires c κs = search needs
 
 abbrev lent : tie.Start → Table
 lent S = tableOf (S .args .rows) (S .args .head .0) (S .args .marks .now) (S .args .cells .now)
@@ -66,9 +57,6 @@ slice-aggregate-marks-only c =
     let a = c .before .before .before .before .before .before .before .before .before .before .before .before .args in
     sym (length-take-le (a .rows) (a .marks .now) (omega arith))
 
-marks-only-requires : tie.Need-marks-only-requires
-marks-only-requires c κs = search needs
-
 returns-7 : tie.Need-returns-7
 returns-7 c =
     let R = c .before .before .before in
@@ -81,13 +69,13 @@ well-formed-spec =
     returns
     returns-2
     returns-3
-    mul-if4
+    (λ c. search needs)
     returns-4
     returns-5
-    mul-rows-only
+    (λ c. search needs)
     slice-aggregate-rows-only
-    rows-only-requires
+    (λ c κs. search needs)
     returns-6
     slice-aggregate-marks-only
-    marks-only-requires
+    (λ c κs. search needs)
     returns-7)

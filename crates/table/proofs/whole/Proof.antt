@@ -11,9 +11,6 @@ use Rattle.table.specs.Lent.{tableOf}
 use Rattle.table.proofs.whole.Statement.{statement}
 use Rattle.table.proofs.whole.Tie as tie
 
-well-formed-requires : tie.Need-well-formed-requires
-well-formed-requires c κs = search needs
-
 abbrev lent : tie.Start → Table
 lent S = tableOf (S .args .rows) (S .args .head .0) (S .args .marks .now) (S .args .cells .now)
 
@@ -37,4 +34,9 @@ returns-3 c = ap given (c .takes-whole .ensures) ∙ sym (checked-past _ _ _ (fo
 
 pub whole-spec : {M : Type 1} → statement M
 whole-spec =
-    tie.close (tie.spec well-formed-requires returns returns-2 takes-whole-requires returns-3)
+    tie.close (tie.spec
+    (λ c κs. search needs)
+    returns
+    returns-2
+    takes-whole-requires
+    returns-3)

@@ -5,24 +5,18 @@ use borrow.Author.Tests.{le-leb, lt-leb}
 use Rattle.rules.specs.Answers.{given}
 use Rattle.writing.proofs.answer.Statement.{statement}
 use Rattle.writing.proofs.answer.Tie as tie
-use Rattle.writing.proofs.answer.Reads as reads
-use Rattle.writing.proofs.answer.Lts as lts
-
--- src/lib.rt:38:30
-cast-t4 : tie.Need-cast-t4
-cast-t4 c = search needs
 
 -- src/lib.rt:38:9
 returns : tie.Need-returns
 returns c = ap (λ (b : Bool). given (b, c .before .args .n)) (sym (le-leb _ _ (c .if1 .taken)))
-
--- src/lib.rt:40:18
-cast-t5 : tie.Need-cast-t5
-cast-t5 c = search needs
 
 -- src/lib.rt:33:1
 returns-2 : tie.Need-returns-2
 returns-2 c = ap (λ (b : Bool). given (b, c .before .args .n)) (sym (lt-leb _ _ (c .if1 .left)))
 
 pub answer-spec : {M : Type 1} → statement M
-answer-spec = tie.close (tie.spec cast-t4 returns cast-t5 returns-2)
+answer-spec = tie.close (tie.spec
+    (λ c. search needs)
+    returns
+    (λ c. search needs)
+    returns-2)

@@ -5,16 +5,6 @@ use lib.ListN.{length, length-set}
 use lib.Seq.{set-out}
 use Rattle.writing.proofs.put.Statement.{statement}
 use Rattle.writing.proofs.put.Tie as tie
-use Rattle.writing.proofs.put.Reads as reads
-use Rattle.writing.proofs.put.Lts as lts
-
--- src/writing.rt:12:9
-slice-write-out : tie.Need-slice-write-out
-slice-write-out c = search needs
-
--- src/writing.rt:14:5
-add-result : tie.Need-add-result
-add-result c = search needs
 
 -- src/writing.rt:7:1
 same-length : tie.Need-same-length
@@ -30,4 +20,8 @@ returns c =
     }
 
 pub put-spec : {M : Type 1} → statement M
-put-spec = tie.close (tie.spec slice-write-out add-result same-length returns)
+put-spec = tie.close (tie.spec
+    (λ c. search needs)
+    (λ c. search needs)
+    same-length
+    returns)

@@ -1,17 +1,14 @@
 use borrow.Author.Needs.{needs}
 use mathlib.Core.Path.{_≡_}
 use mathlib.Core.List.{List, [], _∷_, _++_}
-use Prim.Native.Nat.{ℕ, suc, _+_, _-_, _≤_, _<_}
+use Prim.Native.Nat.{ℕ, _+_, _-_, _≤_, _<_}
 use native.Mathlib.Omega.{arith}
 use native.Mathlib.Numerals.{add-one}
 use lib.ListN.{length, getD, drop, drop-of-length-le, length-drop}
 use lib.Seq.{drop-cons}
-use Rattle.writing.proofs.Writings.{Left, left-all, left-less, left-none, left-room, left-length}
+use Rattle.writing.proofs.Writings.{Left, left-all, left-less, left-none, left-length}
 use Rattle.writing.proofs.put_all.Statement.{statement}
 use Rattle.writing.proofs.put_all.Tie as tie
-use Rattle.writing.proofs.put_all.Reads as reads
-use Rattle.writing.proofs.put_all.Lts as lts
-use Rattle.writing.proofs.put.Reads as put-reads
 
 abbrev Inv-loop : tie.InvT-loop
 Inv-loop out₀ at text here₀ i₀ out here i = (i ≤ length text) × Left out₀ at text out here (drop i text)

@@ -4,8 +4,6 @@ use lib.ListN.{length}
 use Rattle.writing.proofs.RunLaws.{Lasts, lasts-one, lasts-more, ends-inside, ends-last}
 use Rattle.writing.proofs.run_end.Statement.{statement}
 use Rattle.writing.proofs.run_end.Tie as tie
-use Rattle.writing.proofs.run_end.Reads as reads
-use Rattle.writing.proofs.run_end.Lts as lts
 
 abbrev Inv-loop : tie.InvT-loop
 Inv-loop cells lo to hi₀ hi = Lasts cells lo hi

@@ -1,10 +1,7 @@
-use borrow.Author.Needs.{needs}
 use Rattle.finders.specs.Ahead.{lent}
 use Rattle.rules.proofs.TableLaws.{begins-first, begins-later}
 use Rattle.finders.proofs.ahead.begin.Statement.{statement}
 use Rattle.finders.proofs.ahead.begin.Tie as tie
-use Rattle.finders.proofs.ahead.begin.Reads as reads
-use Rattle.finders.proofs.ahead.begin.Lts as lts
 
 -- src/ahead.rt:60:1
 returns : tie.Need-returns

@@ -1,12 +1,8 @@
 use borrow.Author.Needs.{needs}
-use mathlib.Core.Path.{_≡_, refl, sym, _∙_}
-use Prim.Native.Nat.{ℕ, _-_, _≤_}
+use Prim.Native.Nat.{_-_, _≤_}
 use native.Mathlib.Omega.{arith}
 use Rattle.finders.proofs.ahead.dead_row.Statement.{statement}
 use Rattle.finders.proofs.ahead.dead_row.Tie as tie
-use Rattle.finders.proofs.ahead.dead_row.Reads as reads
-use Rattle.finders.proofs.ahead.dead_row.Lts as lts
-use Rattle.finders.proofs.ahead.stuck.Reads as stuck-reads
 
 abbrev Inv-loop : tie.InvT-loop
 Inv-loop rows head cells marks q₀ q = q ≤ rows

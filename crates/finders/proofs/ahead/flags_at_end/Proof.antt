@@ -10,9 +10,6 @@ use Rattle.finders.specs.Ahead.{ahead}
 use Rattle.finders.proofs.AheadLaws.{flag-more}
 use Rattle.finders.proofs.ahead.flags_at_end.Statement.{statement}
 use Rattle.finders.proofs.ahead.flags_at_end.Tie as tie
-use Rattle.finders.proofs.ahead.flags_at_end.Reads as reads
-use Rattle.finders.proofs.ahead.flags_at_end.Lts as lts
-use Rattle.table.proofs.ends_here.Reads as ends-here-reads
 
 abbrev Inv-loop : tie.InvT-loop
 Inv-loop cells marks n flags₀ q₀ flags q = (q ≤ n) × ((length flags ≡ 1024) × ((k : ℕ) → k < q → getD flags k 0 ≡ boolByte (fits (getD marks k 0) true)))

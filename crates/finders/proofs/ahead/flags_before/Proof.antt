@@ -8,9 +8,6 @@ use Rattle.finders.specs.Ahead.{lent, ahead}
 use Rattle.finders.proofs.AheadLaws.{flag-more}
 use Rattle.finders.proofs.ahead.flags_before.Statement.{statement}
 use Rattle.finders.proofs.ahead.flags_before.Tie as tie
-use Rattle.finders.proofs.ahead.flags_before.Reads as reads
-use Rattle.finders.proofs.ahead.flags_before.Lts as lts
-use Rattle.finders.proofs.ahead.look.Reads as look-reads
 
 abbrev Inv-loop : tie.InvT-loop
 Inv-loop rows cells marks text flags from to n earlier₀ q₀ earlier q = (n ≡ rows .count) × ((q ≤ n) × ((length earlier ≡ 1024) × ((k : ℕ) → k < q → getD earlier k 0 ≡ boolByte (ahead (lent rows marks cells) k (drop from text)))))

@@ -8,10 +8,6 @@ use Rattle.finders.specs.Ahead.{lent, Ready}
 use Rattle.finders.proofs.AheadLaws.{On, on-more, on-hit, on-dead, on-end}
 use Rattle.finders.proofs.ahead.look.Statement.{statement}
 use Rattle.finders.proofs.ahead.look.Tie as tie
-use Rattle.finders.proofs.ahead.look.Reads as reads
-use Rattle.finders.proofs.ahead.look.Lts as lts
-use Rattle.table.proofs.ends_here.Reads as ends-here-reads
-use Rattle.table.proofs.step.Reads as step-reads
 
 abbrev Inv-loop : tie.InvT-loop
 Inv-loop cells marks text flags from to dead row₀ p₀ row p = (n h : ℕ) → Ready (tableOf n h marks cells) text (dead .0) → row₀ .0 < n → from ≤ to → to ≤ length text → On (tableOf n h marks cells) text (row₀ .0) from to (row .0) p

@@ -1,15 +1,12 @@
 use borrow.Author.Needs.{needs}
 use mathlib.Core.Path.{_≡_, refl, ap, sym, _∙_}
-use mathlib.Core.Bool.{true, true≢false}
+use mathlib.Core.Bool.{true≢false}
 use Prim.Native.Nat.{ℕ, _+_, _*_, _-_, _≤_, _<_}
 use native.Mathlib.Omega.{arith}
 use lib.ListN.{getD}
 use borrow.Author.Count.{below-more}
 use Rattle.finders.proofs.ahead.stuck.Statement.{statement}
 use Rattle.finders.proofs.ahead.stuck.Tie as tie
-use Rattle.finders.proofs.ahead.stuck.Reads as reads
-use Rattle.finders.proofs.ahead.stuck.Lts as lts
-use Rattle.table.proofs.ends_here.Reads as ends-here-reads
 
 abbrev Inv-loop : tie.InvT-loop
 Inv-loop rows cells marks q from b₀ b = (from ≡ 256 * q) × ((b ≤ 256) × ((k : ℕ) → k < b → getD cells (256 * q + k) 0 ≡ q))

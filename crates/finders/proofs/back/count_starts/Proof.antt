@@ -1,7 +1,7 @@
 use borrow.Author.Needs.{needs}
 use mathlib.Core.Path.{_≡_, ap, sym, _∙_}
 use mathlib.Core.Bool.{true, false}
-use Prim.Native.Nat.{ℕ, _+_, _-_}
+use Prim.Native.Nat.{ℕ}
 use native.Mathlib.Omega.{arith}
 use lib.ListN.{length}
 use Rattle.finders.specs.Ahead.{lent}
@@ -10,10 +10,6 @@ use Rattle.finders.proofs.AheadLaws.{flags-end}
 use Rattle.finders.proofs.StartsLaws.{starts-all, starts-none, starts-back, starts-few}
 use Rattle.finders.proofs.back.count_starts.Statement.{statement}
 use Rattle.finders.proofs.back.count_starts.Tie as tie
-use Rattle.finders.proofs.back.count_starts.Reads as reads
-use Rattle.finders.proofs.back.count_starts.Lts as lts
-use Rattle.finders.proofs.ahead.flags_at_end.Reads as flags-at-end-reads
-use Rattle.finders.proofs.back.look_back.Reads as look-back-reads
 
 abbrev Inv-loop : tie.InvT-loop
 Inv-loop rows cells marks text flags₀ to₀ spent₀ count₀ s₀ flags to spent count s = Pass (lent rows marks cells) text flags to spent s × (count ≡ length (startsFrom (lent rows marks cells) text s))

@@ -12,10 +12,6 @@ use Rattle.finders.proofs.StartsLaws.{starts-all, starts-none, starts-b
 use Rattle.finders.proofs.BackLaws.{set-next}
 use Rattle.finders.proofs.back.list_back.Statement.{statement}
 use Rattle.finders.proofs.back.list_back.Tie as tie
-use Rattle.finders.proofs.back.list_back.Reads as reads
-use Rattle.finders.proofs.back.list_back.Lts as lts
-use Rattle.finders.proofs.ahead.flags_at_end.Reads as flags-at-end-reads
-use Rattle.finders.proofs.back.look_back.Reads as look-back-reads
 
 abbrev Inv-loop : tie.InvT-loop
 Inv-loop rows cells marks text list₀ flags₀ to₀ spent₀ count₀ s₀ list flags to spent count s = Pass (lent rows marks cells) text flags to spent s × ((count ≡ length (startsFrom (lent rows marks cells) text s)) × ((length list ≡ length list₀) × (list ≡ reverse (startsFrom (lent rows marks cells) text s) ++ drop count list₀)))

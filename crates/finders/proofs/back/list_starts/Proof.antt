@@ -9,35 +9,15 @@ use Rattle.finders.proofs.BackLaws.{front-turned}
 use borrow.Author.Needs.{needs}
 use Rattle.finders.proofs.back.list_starts.Statement.{statement}
 use Rattle.finders.proofs.back.list_starts.Tie as tie
-use Rattle.finders.proofs.back.list_starts.Reads as reads
-use Rattle.finders.proofs.back.list_starts.Lts as lts
-use Rattle.finders.proofs.back.list_back.Reads as list-back-reads
-use Rattle.finders.proofs.back.turn.Reads as turn-reads
-
--- src/back.rt:114:9
-list-back-requires : tie.Need-list-back-requires
-list-back-requires c κs = search needs
-
--- src/back.rt:115:10
-slice-relend-prefix-turn : tie.Need-slice-relend-prefix-turn
-slice-relend-prefix-turn c = search needs
 
 -- src/back.rt:115:10
 slice-aggregate-turn : tie.Need-slice-aggregate-turn
 slice-aggregate-turn c = sym (length-take-le _ _ (search needs))
 
--- src/back.rt:115:5
-turn-requires : tie.Need-turn-requires
-turn-requires c κs = search needs
-
 -- src/back.rt:116:5
 cast-result : tie.Need-cast-result
 cast-result c = let A = c .before .before .before .before .before .before .before .before .before .before .before .before .args in
     omega (arith, c .before .before .before .before .before .before .list-back .ensures .0, starts-most (lent (A .rows) (A .marks .now) (A .cells .now)) (A .text .now), c .before .before .before .before .before .before .before .before .before .before .before .before .pre .0 .short)
-
--- src/back.rt:108:1
-same-length : tie.Need-same-length
-same-length c = search needs
 
 -- src/back.rt:108:1
 returns : tie.Need-returns
@@ -49,10 +29,10 @@ pub list-starts-spec : {M : Type 1} → statement M
 list-starts-spec =
     tie.close
     (tie.spec
-    list-back-requires
-    slice-relend-prefix-turn
+    (λ c κs. search needs)
+    (λ c. search needs)
     slice-aggregate-turn
-    turn-requires
+    (λ c κs. search needs)
     cast-result
-    same-length
+    (λ c. search needs)
     returns)

@@ -1,27 +1,18 @@
 use mathlib.Core.Path.{ap, _∙_}
-use Prim.Native.Nat.{ℕ, _*_, _-_, _≤_, _<_}
+use Prim.Native.Nat.{ℕ, _*_, _-_, _≤_}
 use native.Mathlib.Nat.{mul-le-mul}
 use native.Mathlib.Omega.{arith}
 use lib.ListN.{drop}
 use Rattle.rules.specs.Sizes.{rowsMost, textMost}
 use Rattle.rules.proofs.TableLaws.{read-none}
-use Rattle.finders.specs.Ahead.{lent, ahead, isStart}
+use Rattle.finders.specs.Ahead.{lent, ahead}
 use borrow.Author.Needs.{needs}
 use Rattle.finders.proofs.back.look_back.Statement.{statement}
 use Rattle.finders.proofs.back.look_back.Tie as tie
-use Rattle.finders.proofs.back.look_back.Reads as reads
-use Rattle.finders.proofs.back.look_back.Lts as lts
-use Rattle.finders.proofs.ahead.begin.Reads as begin-reads
-use Rattle.finders.proofs.ahead.flags_before.Reads as flags-before-reads
-use Rattle.finders.proofs.ahead.look.Reads as look-reads
 
 -- what new flags cost is bounded
 bounded : {a b : ℕ} → a ≤ rowsMost → b ≤ textMost → a * b ≤ rowsMost * textMost
 bounded h i = mul-le-mul h i
-
--- src/back.rt:24:9
-begin-requires : tie.Need-begin-requires
-begin-requires c κs = search needs
 
 -- src/back.rt:25:9
 look-requires : tie.Need-look-requires
@@ -38,14 +29,6 @@ look-requires c κs = (
 -- src/back.rt:26:15
 add-sum : tie.Need-add-sum
 add-sum c = omega (arith, c .before .look .ensures .few)
-
--- src/back.rt:27:9
-cast-if1 : tie.Need-cast-if1
-cast-if1 c = search needs
-
--- src/back.rt:27:33
-sub-if1 : tie.Need-sub-if1
-sub-if1 c = search needs
 
 -- src/back.rt:27:8
 mul-if1 : tie.Need-mul-if1
@@ -84,11 +67,11 @@ pub look-back-spec : {M : Type 1} → statement M
 look-back-spec =
     tie.close
     (tie.spec
-    begin-requires
+    (λ c κs. search needs)
     look-requires
     add-sum
-    cast-if1
-    sub-if1
+    (λ c. search needs)
+    (λ c. search needs)
     mul-if1
     flags-before-requires
     returns

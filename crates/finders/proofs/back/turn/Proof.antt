@@ -5,8 +5,6 @@ use lib.Seq.{lt-length-set}
 use Rattle.finders.proofs.BackLaws.{Turned, turned-none, turned-more, turned-all}
 use Rattle.finders.proofs.back.turn.Statement.{statement}
 use Rattle.finders.proofs.back.turn.Tie as tie
-use Rattle.finders.proofs.back.turn.Reads as reads
-use Rattle.finders.proofs.back.turn.Lts as lts
 
 abbrev Inv-loop : tie.InvT-loop
 Inv-loop list₀ n i₀ list i = Turned list₀ list n i

@@ -8,10 +8,6 @@ use Rattle.finders.proofs.KeptLaws.{kept-few}
 use Rattle.finders.proofs.RunLaws.{Running, running-none, running-more, running-hit, running-all}
 use Rattle.finders.proofs.run.advance.Statement.{statement}
 use Rattle.finders.proofs.run.advance.Tie as tie
-use Rattle.finders.proofs.run.advance.Reads as reads
-use Rattle.finders.proofs.run.advance.Lts as lts
-use Rattle.finders.proofs.run.carry.Reads as carry-reads
-use Rattle.table.proofs.ends_here.Reads as ends-here-reads
 
 abbrev Inv-loop : tie.InvT-loop
 Inv-loop known cells marks text rows₀ froms₀ stamps₀ len best p kept₀ i₀ rows froms stamps kept i = Running (lent known marks cells) text rows₀ froms₀ len p rows froms stamps kept i

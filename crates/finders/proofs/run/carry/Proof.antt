@@ -5,10 +5,6 @@ use Rattle.finders.proofs.RunLaws.{carried-dead, carried-joined}
 use borrow.Author.Needs.{needs}
 use Rattle.finders.proofs.run.carry.Statement.{statement}
 use Rattle.finders.proofs.run.carry.Tie as tie
-use Rattle.finders.proofs.run.carry.Reads as reads
-use Rattle.finders.proofs.run.carry.Lts as lts
-use Rattle.finders.proofs.run.join.Reads as join-reads
-use Rattle.table.proofs.step.Reads as step-reads
 
 -- the next row is a row
 inside : (c : tie.After-step) → c .step .result .0 < c .before .before .before .before .before .args .known .count
@@ -17,25 +13,9 @@ inside c =
     let b = getD (A .text .now) (A .p) 0 in
     omega (arith, c .step .ensures, c .before .before .before .before .before .pre .0 .well .formed .cells-rows (256 * A .q .0 + b) (omega (arith, c .before .shared-slice-known4 .given (A .p))))
 
--- src/run.rt:62:38
-shared-slice-read-step : tie.Need-shared-slice-read-step
-shared-slice-read-step c = search needs
-
--- src/run.rt:62:9
-step-requires : tie.Need-step-requires
-step-requires c κs = search needs
-
 -- src/run.rt:65:9
 returns : tie.Need-returns
 returns c = carried-dead _ _ (c .before .before .before .before .before .before .before .before .before .pre .1 .0) (c .before .before .before .before .before .before .before .before .before .pre .0 .stuck (omega (arith, inside (c .before .before .before .before), c .if1 .taken))) (λ i. omega (arith, c .before .before .before .before .before .before .shared-slice-known3 .given i)) (c .before .before .before .before .step .ensures) (c .if1 .taken)
-
--- src/run.rt:67:56
-cast-join : tie.Need-cast-join
-cast-join c = search needs
-
--- src/run.rt:67:56
-add-join : tie.Need-add-join
-add-join c = search needs
 
 -- src/run.rt:67:5
 join-requires : tie.Need-join-requires
@@ -49,10 +29,10 @@ pub carry-spec : {M : Type 1} → statement M
 carry-spec =
     tie.close
     (tie.spec
-    shared-slice-read-step
-    step-requires
+    (λ c. search needs)
+    (λ c κs. search needs)
     returns
-    cast-join
-    add-join
+    (λ c. search needs)
+    (λ c. search needs)
     join-requires
     returns-2)

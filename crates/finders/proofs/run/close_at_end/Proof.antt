@@ -2,16 +2,12 @@ use borrow.Author.Needs.{needs}
 use mathlib.Core.Path.{sym, _∙_}
 use Prim.Native.Nat.{ℕ, _-_, _<_}
 use native.Mathlib.Omega.{arith}
-use lib.ListN.{getD}
 use Rattle.table.specs.Lent.{tableOf}
 use Rattle.finders.specs.Ahead.{lent}
 use Rattle.finders.proofs.KeptLaws.{kept-few}
 use Rattle.finders.proofs.RunLaws.{Closing, closing-none, closing-more, closing-hit, closing-all}
 use Rattle.finders.proofs.run.close_at_end.Statement.{statement}
 use Rattle.finders.proofs.run.close_at_end.Tie as tie
-use Rattle.finders.proofs.run.close_at_end.Reads as reads
-use Rattle.finders.proofs.run.close_at_end.Lts as lts
-use Rattle.table.proofs.ends_here.Reads as ends-here-reads
 
 abbrev Inv-loop : tie.InvT-loop
 Inv-loop cells marks text rows froms stamps len best i₀ i = (n h : ℕ) → Closing (tableOf n h marks cells) text rows froms len best i

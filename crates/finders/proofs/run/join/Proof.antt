@@ -4,35 +4,13 @@ use Rattle.finders.proofs.KeptLaws.{kept-room, joined-old, joined-new}
 use borrow.Author.Needs.{needs}
 use Rattle.finders.proofs.run.join.Statement.{statement}
 use Rattle.finders.proofs.run.join.Tie as tie
-use Rattle.finders.proofs.run.join.Reads as reads
-use Rattle.finders.proofs.run.join.Lts as lts
 
 room : (c : tie.Else1) → c .before .before .before .args .len < 1024
 room c = omega (arith, kept-room (c .before .before .before .pre .0) (c .before .before .before .pre .1 .1) (c .if1 .left))
 
--- src/run.rt:30:13
-cast-i : tie.Need-cast-i
-cast-i c = search needs
-
--- src/run.rt:31:8
-mul-if1 : tie.Need-mul-if1
-mul-if1 c = search needs
-
--- src/run.rt:31:8
-element-copy-out-if1 : tie.Need-element-copy-out-if1
-element-copy-out-if1 c = search needs
-
 -- src/run.rt:32:9
 returns : tie.Need-returns
 returns c = joined-old (c .before .before .before .pre .0) (c .before .before .before .pre .1 .1) (c .before .before .before .args .from) (c .if1 .taken)
-
--- src/run.rt:34:5
-mul-stamps : tie.Need-mul-stamps
-mul-stamps c = search needs
-
--- src/run.rt:34:5
-element-write-stamps : tie.Need-element-write-stamps
-element-write-stamps c = search needs
 
 -- src/run.rt:35:5
 mul-rows : tie.Need-mul-rows
@@ -62,12 +40,12 @@ pub join-spec : {M : Type 1} → statement M
 join-spec =
     tie.close
     (tie.spec
-    cast-i
-    mul-if1
-    element-copy-out-if1
+    (λ c. search needs)
+    (λ c. search needs)
+    (λ c. search needs)
     returns
-    mul-stamps
-    element-write-stamps
+    (λ c. search needs)
+    (λ c. search needs)
     mul-rows
     element-write-rows
     mul-froms

@@ -1,37 +1,8 @@
-use native.Mathlib.Omega.{arith}
 use Rattle.rules.proofs.TableLaws.{read-none}
 use Rattle.finders.proofs.RunLaws.{opened-shut, opened-new}
 use borrow.Author.Needs.{needs}
 use Rattle.finders.proofs.run.open_at.Statement.{statement}
 use Rattle.finders.proofs.run.open_at.Tie as tie
-use Rattle.finders.proofs.run.open_at.Reads as reads
-use Rattle.finders.proofs.run.open_at.Lts as lts
-use Rattle.finders.proofs.ahead.begin.Reads as begin-reads
-use Rattle.finders.proofs.run.join.Reads as join-reads
-
--- src/run.rt:47:31
-enum-told : tie.Need-enum-told
-enum-told c = search needs
-
--- src/run.rt:49:17
-enum-told-2 : tie.Need-enum-told-2
-enum-told-2 c = search needs
-
--- src/run.rt:49:17
-begin-requires : tie.Need-begin-requires
-begin-requires c κs = search needs
-
--- src/run.rt:50:54
-cast-join : tie.Need-cast-join
-cast-join c = search needs
-
--- src/run.rt:50:64
-cast-join-2 : tie.Need-cast-join-2
-cast-join-2 c = search needs
-
--- src/run.rt:50:64
-add-join : tie.Need-add-join
-add-join c = search needs
 
 -- src/run.rt:50:13
 join-requires : tie.Need-join-requires
@@ -50,12 +21,12 @@ pub open-at-spec : {M : Type 1} → statement M
 open-at-spec =
     tie.close
     (tie.spec
-    enum-told
-    enum-told-2
-    begin-requires
-    cast-join
-    cast-join-2
-    add-join
+    (λ c. search needs)
+    (λ c. search needs)
+    (λ c κs. search needs)
+    (λ c. search needs)
+    (λ c. search needs)
+    (λ c. search needs)
     join-requires
     returns
     returns-2)

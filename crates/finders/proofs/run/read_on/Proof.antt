@@ -1,6 +1,6 @@
 use borrow.Author.Needs.{needs}
-use mathlib.Core.Path.{_≡_, refl, ap, sym, subst, _∙_}
-use Prim.Native.Nat.{ℕ, _+_, _-_, _≤_, _<_}
+use mathlib.Core.Path.{_≡_, ap, sym, subst, _∙_}
+use Prim.Native.Nat.{ℕ, _+_, _-_, _≤_}
 use native.Mathlib.Omega.{arith}
 use lib.ListN.{length, getD-replicate}
 use Rattle.finders.specs.Ahead.{lent}
@@ -9,11 +9,6 @@ use Rattle.finders.proofs.KeptLaws.{kept-none}
 use Rattle.finders.proofs.RunLaws.{outcome-none, opened-over}
 use Rattle.finders.proofs.run.read_on.Statement.{statement}
 use Rattle.finders.proofs.run.read_on.Tie as tie
-use Rattle.finders.proofs.run.read_on.Reads as reads
-use Rattle.finders.proofs.run.read_on.Lts as lts
-use Rattle.finders.proofs.run.advance.Reads as advance-reads
-use Rattle.finders.proofs.run.close_at_end.Reads as close-at-end-reads
-use Rattle.finders.proofs.run.open_at.Reads as open-at-reads
 
 abbrev Inv-loop : tie.InvT-loop
 Inv-loop known cells marks text from rows₀ froms₀ stamps₀ len₀ best₀ p₀ rows froms stamps len best p = (p ≤ length text) × (Kept (known .count) rows froms stamps len (p + 1) × (firstFrom (lent known marks cells) text from ≡ outcome (lent known marks cells) text rows froms len best p p))

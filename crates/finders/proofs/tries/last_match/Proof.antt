@@ -12,11 +12,6 @@ use Rattle.finders.specs.Run.{foundOf}
 use Rattle.finders.proofs.TriesLaws.{Ending, ending-none, ending-more, ending-dead, ending-end}
 use Rattle.finders.proofs.tries.last_match.Statement.{statement}
 use Rattle.finders.proofs.tries.last_match.Tie as tie
-use Rattle.finders.proofs.tries.last_match.Reads as reads
-use Rattle.finders.proofs.tries.last_match.Lts as lts
-use Rattle.finders.proofs.ahead.begin.Reads as begin-reads
-use Rattle.table.proofs.ends_here.Reads as ends-here-reads
-use Rattle.table.proofs.step.Reads as step-reads
 
 abbrev Inv-loop : tie.InvT-loop
 Inv-loop cells marks text s from dead row₀ best₀ p₀ row best p = (n h : ℕ) → WellFormed (tableOf n h marks cells) → row₀ .0 ≡ begins (tableOf n h marks cells) s → s ≤ length text → Ending (tableOf n h marks cells) text s (row .0) best p

@@ -1,6 +1,6 @@
 use borrow.Author.Needs.{needs}
 use mathlib.Core.Path.{_≡_, refl, ap, sym, _∙_}
-use mathlib.Core.Bool.{true, false, true≢false}
+use mathlib.Core.Bool.{true≢false}
 use Prim.Native.Nat.{ℕ, _+_, _*_, _-_, _≤_}
 use native.Mathlib.Omega.{arith}
 use lib.ListN.{length, drop}
@@ -13,11 +13,6 @@ use Rattle.finders.proofs.StartsLaws.{first-all}
 use Rattle.finders.proofs.TriesLaws.{first-skip}
 use Rattle.finders.proofs.tries.try_each.Statement.{statement}
 use Rattle.finders.proofs.tries.try_each.Tie as tie
-use Rattle.finders.proofs.tries.try_each.Reads as reads
-use Rattle.finders.proofs.tries.try_each.Lts as lts
-use Rattle.finders.proofs.ahead.begin.Reads as begin-reads
-use Rattle.finders.proofs.ahead.flags_at_end.Reads as flags-at-end-reads
-use Rattle.finders.proofs.ahead.look.Reads as look-reads
 
 abbrev Inv-loop : tie.InvT-loop
 Inv-loop known cells marks text n flags spent₀ s₀ spent s = (n ≡ length text) × ((s ≤ n + 1) × ((spent ≤ 4 * n) × (first (lent known marks cells) text ≡ firstFrom (lent known marks cells) text s)))

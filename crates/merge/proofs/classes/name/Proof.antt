@@ -5,9 +5,6 @@ use lib.Seq.{length-take-le}
 use Rattle.merge.proofs.classes.name.Statement.{statement}
 use Rattle.merge.proofs.classes.name.Tie as tie
 
-slice-aggregate-list : tie.Need-slice-aggregate-list
-slice-aggregate-list c = search needs
-
 list-requires : tie.Need-list-requires
 list-requires c κs =
     let S = c .before .before .before .before .before .before .before .before in
@@ -24,21 +21,6 @@ settle-requires c κs =
     let S = c .before .before .before .before .before .before .before .before .before .before .before .before .before .before .before .before in
     ((S .pre .0, c .before .before .before .before .before .before .before .list .ensures .1), S .pre .1)
 
-same-length : tie.Need-same-length
-same-length c = search needs
-
-same-length-2 : tie.Need-same-length-2
-same-length-2 c = search needs
-
-same-length-3 : tie.Need-same-length-3
-same-length-3 c = search needs
-
-same-length-4 : tie.Need-same-length-4
-same-length-4 c = search needs
-
-same-length-5 : tie.Need-same-length-5
-same-length-5 c = search needs
-
 returns : tie.Need-returns
 returns c = c .before .before .before .before .before .before .before .before .before .before .settle .ensures
 
@@ -46,14 +28,14 @@ pub name-spec : {M : Type 1} → statement M
 name-spec =
     tie.close
     (tie.spec
-    slice-aggregate-list
+    (λ c. search needs)
     list-requires
     array-share-prefix-bytes
     slice-aggregate-settle
     settle-requires
-    same-length
-    same-length-2
-    same-length-3
-    same-length-4
-    same-length-5
+    (λ c. search needs)
+    (λ c. search needs)
+    (λ c. search needs)
+    (λ c. search needs)
+    (λ c. search needs)
     returns)

@@ -1,8 +1,7 @@
 use borrow.Author.Needs.{needs}
 use mathlib.Core.Path.{_≡_}
-use Prim.Native.Nat.{_+_, _*_, _≤_, _-_}
+use Prim.Native.Nat.{_≤_, _-_}
 use native.Mathlib.Omega.{arith}
-use lib.ListN.{getD}
 use Rattle.merge.specs.Numbers.{Moved}
 use Rattle.merge.proofs.NumberLaws.{moved-none, cell-read, moved-more}
 use Rattle.merge.proofs.lower.move_row.Statement.{statement}

@@ -14,12 +14,6 @@ returns c =
     let S = c .before .before .before .before .before in
     (λ h. absurd (omega arith), firsts-on (S .pre .0))
 
-mul-l : tie.Need-mul-l
-mul-l c = search needs
-
-shared-slice-read-l : tie.Need-shared-slice-read-l
-shared-slice-read-l c = search needs
-
 cast-l : tie.Need-cast-l
 cast-l c =
     let S = c .before .before .before .before .before .before in
@@ -45,9 +39,6 @@ returns-2 c =
     let S = c .before .before .before .before .before .before .before .before in
     (follow-known (S .pre .0) (omega arith) (omega (arith, S .pre .1 .0 .low (S .args .r) (omega arith))) (sym (c .before .before .before .before .test .ensures) ∙ c .before .before .before .if1 .left) (c .if2 .taken), firsts-on (S .pre .0))
 
-cast-first : tie.Need-cast-first
-cast-first c = search needs
-
 mul-first : tie.Need-mul-first
 mul-first c =
     let S = c .before .before .before .before .before .before .before .before in
@@ -57,9 +48,6 @@ slice-write-first : tie.Need-slice-write-first
 slice-write-first c =
     let S = c .before .before .before .before .before .before .before .before in
     omega (arith, S .pre .1 .0 .low (S .args .r) (omega arith), S .pre .0 .long)
-
-same-length : tie.Need-same-length
-same-length c = search needs
 
 returns-3 : tie.Need-returns-3
 returns-3 c =
@@ -72,15 +60,15 @@ first-clean-spec =
     (tie.spec
     test-requires
     returns
-    mul-l
-    shared-slice-read-l
+    (λ c. search needs)
+    (λ c. search needs)
     cast-l
     mul-f
     slice-read-f
     cast-f
     returns-2
-    cast-first
+    (λ c. search needs)
     mul-first
     slice-write-first
-    same-length
+    (λ c. search needs)
     returns-3)

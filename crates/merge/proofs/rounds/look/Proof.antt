@@ -25,33 +25,15 @@ slice-write-next c =
     let S = c .before .before .before .before .before .before .before in
     omega (arith, S .pre .1 .0 .long)
 
-mul-l : tie.Need-mul-l
-mul-l c = search needs
-
-shared-slice-read-l : tie.Need-shared-slice-read-l
-shared-slice-read-l c = search needs
-
 cast-l : tie.Need-cast-l
 cast-l c =
     let S = c .before .before .before .before .before .before .before .before in
     omega (arith, S .pre .0 .names .low (S .args .r) (omega arith), S .pre .0 .rows .few)
 
-same-length : tie.Need-same-length
-same-length c = search needs
-
-same-length-2 : tie.Need-same-length-2
-same-length-2 c = search needs
-
 returns : tie.Need-returns
 returns c =
     let S = c .before .before .before .before .before .before .before .before .before in
     joins (S .pre .1 .0) (S .pre .1 .1) (S .pre .0 .names) (c .before .before .least .ensures .1) (inl (c .if1 .taken))
-
-same-length-3 : tie.Need-same-length-3
-same-length-3 c = search needs
-
-same-length-4 : tie.Need-same-length-4
-same-length-4 c = search needs
 
 returns-2 : tie.Need-returns-2
 returns-2 c =
@@ -78,12 +60,6 @@ add-result c =
     let S = c .before .before .before .before .before .before .before .before .before .before in
     omega (arith, S .pre .1 .0 .late .few, S .pre .0 .rows .few)
 
-same-length-5 : tie.Need-same-length-5
-same-length-5 c = search needs
-
-same-length-6 : tie.Need-same-length-6
-same-length-6 c = search needs
-
 returns-3 : tie.Need-returns-3
 returns-3 c =
     let S = c .before .before .before .before .before .before .before .before .before .before in
@@ -97,19 +73,19 @@ look-spec =
     cast-next
     mul-next
     slice-write-next
-    mul-l
-    shared-slice-read-l
+    (λ c. search needs)
+    (λ c. search needs)
     cast-l
-    same-length
-    same-length-2
+    (λ c. search needs)
+    (λ c. search needs)
     returns
-    same-length-3
-    same-length-4
+    (λ c. search needs)
+    (λ c. search needs)
     returns-2
     cast-parted
     mul-parted
     slice-write-parted
     add-result
-    same-length-5
-    same-length-6
+    (λ c. search needs)
+    (λ c. search needs)
     returns-3)

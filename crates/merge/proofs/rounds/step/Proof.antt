@@ -29,12 +29,6 @@ slice-write-next c =
     let S = c .before .before .before .before .before .before .before .before .before .before .before .before .before in
     omega (arith, S .pre .0 .1 .0 .long)
 
-same-length : tie.Need-same-length
-same-length c = search needs
-
-same-length-2 : tie.Need-same-length-2
-same-length-2 c = search needs
-
 returns : tie.Need-returns
 returns c =
     let S = c .before .before .before .before .before .before .before .before .before .before .before .before .before in
@@ -44,15 +38,6 @@ look-requires : tie.Need-look-requires
 look-requires c κs =
     let S = c .before .before .before .before .before .before .before .before .before .before .before .before .before .before in
     S .pre .0
-
-same-length-3 : tie.Need-same-length-3
-same-length-3 c = search needs
-
-same-length-4 : tie.Need-same-length-4
-same-length-4 c = search needs
-
-same-length-5 : tie.Need-same-length-5
-same-length-5 c = search needs
 
 returns-2 : tie.Need-returns-2
 returns-2 c = (c .before .before .before .before .look .ensures, c .before .before .before .before .before .before .before .before .before .before .first-clean .ensures .1)
@@ -66,11 +51,11 @@ step-spec =
     slice-read-next
     mul-next-2
     slice-write-next
-    same-length
-    same-length-2
+    (λ c. search needs)
+    (λ c. search needs)
     returns
     look-requires
-    same-length-3
-    same-length-4
-    same-length-5
+    (λ c. search needs)
+    (λ c. search needs)
+    (λ c. search needs)
     returns-2)

@@ -2,7 +2,7 @@
 -- a reading loop that began at at₀ after the tree X₀ has come to `at`, with the program of its tree from `start` up to n
 use mathlib.Core.Path.{_≡_, refl, sym, ap, _∙_}
 use mathlib.Core.List.{List, [], _∷_}
-use Prim.Native.Nat.{_+_, _*_, _-_, _≤_}
+use Prim.Native.Nat.{_+_, _*_, _-_, _≤_, _<_}
 use borrow.Author.Needs.{needs}
 use native.Mathlib.Omega.{arith}
 use lib.ListN.{length, take}
@@ -17,7 +17,7 @@ use Rattle.reader.proofs.SignLaws.{not-sign}
 use Rattle.reader.proofs.TokenLaws.{token-end, token-of, on-within, close-here}
 use Rattle.reader.proofs.ProgramKeeps.{wrote-one, wrote-sign, wrote-pair, kept-below}
 use Rattle.reader.proofs.SaysLaws.{atom-deep, group-refused, group-unclosed, group-closed, piece-refused, piece-once, piece-signed, piece-brace, branch-empty, branch-refused, branch-on, pieces-stop, pieces-refused, pieces-on, pattern-refused, pattern-on, branches-end, branches-out, branches-stray, branches-refused, branches-on}
-use Prim.Native.Nat.{ℕ, _<_}
+use Prim.Native.Nat.{ℕ}
 use borrow.Fn.Kinds.{In}
 use borrow.Fn.PlainCycle.{Measures, is, falls, and}
 use Rattle.reader.proofs.tree.read_atom.Reads as read-atom

@@ -1,0 +1,8 @@
+pub mod ZeroLaws
+pub mod OutcomeLaws
+pub mod FirstNodes
+pub mod RowsFront
+pub mod Limits
+pub mod StageLaws
+pub mod OutcomesOnce
+pub mod Demands
