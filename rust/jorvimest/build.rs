@@ -5,8 +5,5 @@ fn main() {
     let folder = Path::new(env!("CARGO_MANIFEST_DIR")).join("../../target/staticlib");
     println!("cargo:rustc-link-search=native={}", folder.display());
     println!("cargo:rustc-link-lib=static=jorvimest");
-    println!(
-        "cargo:rerun-if-changed={}",
-        folder.join("libjorvimest.a").display()
-    );
+    println!("cargo:rerun-if-changed={}", folder.join("libjorvimest.a").display());
 }

@@ -46,3 +46,33 @@ startsCode (given n) = 0
 abbrev pub startsCount : ℕ → Answer ℕ → ℕ
 startsCount old (refused r) = getD (r .values) 0 old
 startsCount old (given n) = n
+
+-- 0 for a table, or a refusal's number
+abbrev pub compileCode : Answer (ℕ × ℕ) → ℕ
+compileCode (refused r) = r .number
+compileCode (given x) = 0
+
+-- the rows and the head row of a table, or what stood there
+abbrev pub compileRows : ℕ → Answer (ℕ × ℕ) → ℕ
+compileRows old (refused r) = old
+compileRows old (given x) = x .0
+
+abbrev pub compileHead : ℕ → Answer (ℕ × ℕ) → ℕ
+compileHead old (refused r) = old
+compileHead old (given x) = x .1
+
+-- the place of a refusal, or what stood there
+abbrev pub compilePlace : ℕ → Answer (ℕ × ℕ) → ℕ
+compilePlace old (refused r) = r .place
+compilePlace old (given x) = old
+
+-- 0 for a whole text in the buffer, 1 for the beginning of a longer one, and a refusal's number
+abbrev pub textCode : Answer (Bool × ℕ) → ℕ
+textCode (refused r) = r .number
+textCode (given (true, n)) = 0
+textCode (given (false, n)) = 1
+
+-- the text's length, or what stood there
+abbrev pub textLength : ℕ → Answer (Bool × ℕ) → ℕ
+textLength old (refused r) = old
+textLength old (given x) = x .1

@@ -4,7 +4,7 @@ ghost use mathlib.Core.List.{map};
 ghost use Prim.Native.Nat.{_*_, _^_, _≤_, _<_};
 ghost use lib.ListN.{length};
 ghost use Rattle.rules.specs.Tools.{upFrom, flat};
-ghost use Rattle.rules.specs.Answers.{refused, given};
+ghost use Rattle.rules.specs.Answers.{refusal, refused, given};
 ghost use Rattle.rules.specs.Listing.{runText, runs, rowLine, listing, withoutLineEnd};
 ghost use Rattle.kinds.specs.Refusals.{refusalOf};
 ghost use Rattle.table.specs.Lent.{tableOf};
@@ -108,15 +108,15 @@ fn put_table(out: &mut [u8], rows: u16, head: Row, cells: &[u16], marks: &[u8]) 
     put_rows(out, here, rows, cells, marks)
 }
 
-// The line of a refusal.
-fn put_refusal(out: &mut [u8], refusal: Refusal) -> usize
-    ensures { λ r. ⌜ Writes (now (out .entry)) 0 (listing (refused (refusalOf refusal))) (now (out .exit)) r ⌝ }
+// The line of a refusal, of its number and its place.
+fn put_refused(out: &mut [u8], number: u32, place: u32) -> usize
+    ensures { λ r. ⌜ Writes (now (out .entry)) 0 (listing (refused (refusal number place))) (now (out .exit)) r ⌝ }
     ensures { λ r. ⌜ r < 2 ^ 32 ⌝ }
 {
     let here = put_all(out, 0, b"refused ");
-    let here = put_number(out, here, kinds::number(refusal));
+    let here = put_number(out, here, number);
     let here = put_all(out, here, b" at ");
-    let here = put_number(out, here, kinds::place(refusal));
+    let here = put_number(out, here, place);
     put(out, here, b'\n')
 }
 
@@ -131,10 +131,17 @@ pub fn write_table(rows: u16, head: Row, cells: &[u16], marks: &[u8], out: &mut 
     answer(n, out.len())
 }
 
+// The line of a refusal with any number and any place.
+pub fn write_refused(number: u32, place: u32, out: &mut [u8]) -> Text
+    ensures { λ r. ⌜ shown r (now (out .exit)) ≡ shownIn (now (out .entry)) (given (listing (refused (refusal number place)))) ⌝ }
+{
+    let n = put_refused(out, number, place);
+    answer(n, out.len())
+}
+
 // The line of a refusal.
 pub fn write_refusal(refusal: Refusal, out: &mut [u8]) -> Text
     ensures { λ r. ⌜ shown r (now (out .exit)) ≡ shownIn (now (out .entry)) (given (listing (refused (refusalOf refusal)))) ⌝ }
 {
-    let n = put_refusal(out, refusal);
-    answer(n, out.len())
+    write_refused(kinds::number(refusal), kinds::place(refusal), out)
 }

@@ -1,25 +1,25 @@
 //! First and all starts: typical rows beside a loop that tries each start and stops at a dead end; and texts made to be slow for such a loop.
 use crate::race;
-use jorvimest::Table;
+use jorvimest::Lent;
 use std::hint::black_box;
 use std::time::Instant;
 
 /// The row that nothing leads out of and that makes no match, if there is one.
-fn dead_end(t: &Table) -> usize {
+fn dead_end(t: &Lent) -> usize {
     (0..t.rows as usize)
         .find(|&q| t.marks[q] == 0 && t.cells[256 * q..256 * q + 256].iter().all(|&c| c as usize == q))
         .unwrap_or(usize::MAX)
 }
 
 /// The longest end of a match from s, read up to a dead end.
-fn plain_longest(t: &Table, dead: usize, text: &[u8], s: usize) -> Option<u32> {
+fn plain_longest(t: &Lent, dead: usize, text: &[u8], s: usize) -> Option<u32> {
     let mut q = if s == 0 { t.head as usize } else { 0 };
     let mut best = None;
-    for p in s..text.len() {
+    for (p, &b) in text.iter().enumerate().skip(s) {
         if t.marks[q] == 3 {
             best = Some(p as u32);
         }
-        q = t.cells[256 * q + text[p] as usize] as usize;
+        q = t.cells[256 * q + b as usize] as usize;
         if q == dead {
             return best;
         }
@@ -30,19 +30,19 @@ fn plain_longest(t: &Table, dead: usize, text: &[u8], s: usize) -> Option<u32> {
     best
 }
 
-fn plain_first(t: &Table, text: &[u8]) -> Option<(u32, u32)> {
+fn plain_first(t: &Lent, text: &[u8]) -> Option<(u32, u32)> {
     let dead = dead_end(t);
     (0..=text.len()).find_map(|s| plain_longest(t, dead, text, s).map(|e| (s as u32, e)))
 }
 
 /// Whether some stretch from s matches, read up to the first match or a dead end.
-fn plain_begins(t: &Table, dead: usize, text: &[u8], s: usize) -> bool {
+fn plain_begins(t: &Lent, dead: usize, text: &[u8], s: usize) -> bool {
     let mut q = if s == 0 { t.head as usize } else { 0 };
-    for p in s..text.len() {
+    for &b in &text[s..] {
         if t.marks[q] == 3 {
             return true;
         }
-        q = t.cells[256 * q + text[p] as usize] as usize;
+        q = t.cells[256 * q + b as usize] as usize;
         if q == dead {
             return false;
         }
@@ -50,7 +50,7 @@ fn plain_begins(t: &Table, dead: usize, text: &[u8], s: usize) -> bool {
     t.marks[q] != 0
 }
 
-fn plain_starts(t: &Table, text: &[u8], list: &mut [u32]) -> u32 {
+fn plain_starts(t: &Lent, text: &[u8], list: &mut [u32]) -> usize {
     let dead = dead_end(t);
     let mut count = 0;
     for s in 0..=text.len() {
@@ -59,7 +59,7 @@ fn plain_starts(t: &Table, text: &[u8], list: &mut [u32]) -> u32 {
             count += 1;
         }
     }
-    count as u32
+    count
 }
 
 const MIB: usize = 1 << 20;
@@ -72,7 +72,7 @@ pub fn run() {
     let mut list = vec![0; MIB + 1];
     for pattern in ["[01][0-9]:[0-5][0-9]", "-?[0-9]+,[0-9]+;kWh", "[A-Z]{2}[0-9A-Z]{32}"] {
         let table = paper::compile(pattern.as_bytes(), 1024).unwrap();
-        let t = Table { rows: table.rows as u16, head: table.head as u16, cells: &table.cells, marks: &table.marks };
+        let t = Lent { rows: table.rows as u16, head: table.head as u16, cells: &table.cells, marks: &table.marks };
         for (name, text) in [("meter rows", &meter), ("no match before the end", &late)] {
             assert_eq!(t.first(text), Ok(plain_first(&t, text)));
             race(
@@ -82,11 +82,11 @@ pub fn run() {
             );
         }
         let mut other = list.clone();
-        assert_eq!(t.starts(&meter, &mut list), Ok(plain_starts(&t, &meter, &mut other)));
+        assert_eq!(t.starts_into(&meter, &mut list), Ok(plain_starts(&t, &meter, &mut other)));
         assert_eq!(list, other);
         race(
             &format!("starts {pattern}, meter rows"),
-            || _ = black_box(black_box(&t).starts(&meter, &mut list)),
+            || _ = black_box(black_box(&t).starts_into(&meter, &mut list)),
             || _ = black_box(plain_starts(black_box(&t), &meter, &mut other)),
         );
     }
@@ -94,12 +94,12 @@ pub fn run() {
     let text = vec![b'a'; MIB];
     for pattern in ["a*b", "(a{254}){4}ab"] {
         let table = paper::compile(pattern.as_bytes(), 1024).unwrap();
-        let t = Table { rows: table.rows as u16, head: table.head as u16, cells: &table.cells, marks: &table.marks };
+        let t = Lent { rows: table.rows as u16, head: table.head as u16, cells: &table.cells, marks: &table.marks };
         let from = Instant::now();
         let first = t.first(&text);
         let first_ms = from.elapsed().as_secs_f64() * 1e3;
         let from = Instant::now();
-        let starts = t.starts(&text, &mut list);
+        let starts = t.starts_into(&text, &mut list);
         let starts_ms = from.elapsed().as_secs_f64() * 1e3;
         println!("{pattern:14} {:5} rows: first {first:?} in {first_ms:.1} ms, starts {starts:?} in {starts_ms:.1} ms", t.rows);
     }

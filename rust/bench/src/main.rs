@@ -1,18 +1,14 @@
-//! The proved matchers beside the same work in plain Rust, in one run: a ratio a line.
-use jorvimest::Table;
+//! `bench [walks] [finders] [compiling]`: the proved library beside the same work in plain Rust, in one run, a ratio a line; all of it
+//! where nothing is said.
+use jorvimest::Lent;
 use std::hint::black_box;
 use std::time::Instant;
 
 /// A table check that runs over many cells at once.
 #[inline(never)]
-fn plain_check(t: &Table) -> bool {
+fn plain_check(t: &Lent) -> bool {
     let rows = t.rows as usize;
-    if rows < 1
-        || 1024 < rows
-        || t.marks.len() < rows
-        || t.cells.len() < 256 * rows
-        || t.rows <= t.head
-    {
+    if !(1..=1024).contains(&rows) || t.marks.len() < rows || t.cells.len() < 256 * rows || t.rows <= t.head {
         return false;
     }
     let mut good = true;
@@ -27,7 +23,7 @@ fn plain_check(t: &Table) -> bool {
 
 /// One load a byte, no bounds checks.
 #[inline(never)]
-fn plain_whole(t: &Table, text: &[u8]) -> bool {
+fn plain_whole(t: &Lent, text: &[u8]) -> bool {
     let mut q = t.head;
     for &b in text {
         q = unsafe { *t.cells.get_unchecked(256 * q as usize + b as usize) };
@@ -37,7 +33,7 @@ fn plain_whole(t: &Table, text: &[u8]) -> bool {
 }
 
 #[inline(never)]
-fn plain_longest(t: &Table, text: &[u8], start: usize) -> Option<u32> {
+fn plain_longest(t: &Lent, text: &[u8], start: usize) -> Option<u32> {
     let mut q = if start == 0 { t.head } else { 0 };
     let mut best = None;
     for p in start..text.len() {
@@ -45,9 +41,7 @@ fn plain_longest(t: &Table, text: &[u8], start: usize) -> Option<u32> {
             if *t.marks.get_unchecked(q as usize) == 3 {
                 best = Some(p as u32);
             }
-            q = *t
-                .cells
-                .get_unchecked(256 * q as usize + *text.get_unchecked(p) as usize);
+            q = *t.cells.get_unchecked(256 * q as usize + *text.get_unchecked(p) as usize);
         }
     }
     let mark = unsafe { *t.marks.get_unchecked(q as usize) };
@@ -69,19 +63,21 @@ pub fn race(name: &str, mut proved: impl FnMut(), mut plain: impl FnMut()) {
         a = a.min(time(&mut proved));
         b = b.min(time(&mut plain));
     }
-    println!(
-        "{name:42} {:10.1} us {:10.1} us  ratio {:.3}",
-        a * 1e6,
-        b * 1e6,
-        a / b
-    );
+    println!("{name:42} {:10.1} us {:10.1} us  ratio {:.3}", a * 1e6, b * 1e6, a / b);
 }
 
+mod compiling;
 mod finders;
+mod patterns;
 
 fn main() {
-    walks();
-    finders::run();
+    let asked: Vec<String> = std::env::args().skip(1).collect();
+    let parts: [(&str, fn()); 3] = [("walks", walks), ("finders", finders::run), ("compiling", compiling::run)];
+    for (name, run) in parts {
+        if asked.is_empty() || asked.iter().any(|word| word == name) {
+            run();
+        }
+    }
 }
 
 fn walks() {
@@ -94,19 +90,10 @@ fn walks() {
     };
     println!("{:42} {:>13} {:>13}", "", "proved", "plain Rust");
     for rows in [5u16, 64, 768] {
-        let cells: Vec<u16> = (0..256 * rows as usize)
-            .map(|_| (random() % rows as u64) as u16)
-            .collect();
-        let marks: Vec<u8> = (0..rows)
-            .map(|_| [0, 0, 0, 2, 3][(random() % 5) as usize])
-            .collect();
+        let cells: Vec<u16> = (0..256 * rows as usize).map(|_| (random() % rows as u64) as u16).collect();
+        let marks: Vec<u8> = (0..rows).map(|_| [0, 0, 0, 2, 3][(random() % 5) as usize]).collect();
         let text: Vec<u8> = (0..1048576).map(|_| random() as u8).collect();
-        let t = Table {
-            rows,
-            head: 1,
-            cells: &cells,
-            marks: &marks,
-        };
+        let t = Lent { rows, head: 1, cells: &cells, marks: &marks };
         assert!(t.well_formed() && plain_check(&t));
         assert_eq!(t.whole(&text), Ok(plain_whole(&t, &text)));
         race(
@@ -121,10 +108,7 @@ fn walks() {
             || _ = black_box(plain_whole(black_box(&t), &text)),
         );
         for start in [0u32, 1] {
-            assert_eq!(
-                t.longest(&text, start),
-                Ok(plain_longest(&t, &text, start as usize))
-            );
+            assert_eq!(t.longest(&text, start), Ok(plain_longest(&t, &text, start as usize)));
             race(
                 &format!("longest from {start}, {rows} rows, 1 MiB"),
                 || _ = black_box(black_box(&t).longest(&text, start)),

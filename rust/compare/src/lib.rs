@@ -1,6 +1,7 @@
 //! The proved library beside the paper's words, case by case. A difference stops the run and names the case; the same seed
 //! makes the same cases.
 
+pub mod compiling;
 pub mod patterns;
 pub mod readings;
 pub mod tables;

@@ -5,4 +5,6 @@ fn main() {
     let seed = words.next().unwrap_or(1);
     let (refused, found) = compare::tables::compare(cases, seed);
     println!("{cases} tables and texts, seed {seed}: no difference; longest refused {refused} times, found {found} times");
+    let tally = compare::compiling::compare(cases, seed);
+    println!("{cases} patterns, seed {seed}: no difference; tables, and refusals 1 to 11: {tally:?}");
 }

@@ -1,7 +1,8 @@
 //! Random tables, some of them damaged, and short texts over few letters.
 use crate::Random;
-use jorvimest::Table;
-use paper::find::Lent;
+use jorvimest::Lent;
+use jorvimest::Refusal;
+use paper::find;
 
 /// A table of few rows most of the time, so that matches end, go on and begin again; with something past it, or damaged.
 struct Made {
@@ -53,25 +54,28 @@ pub fn compare(cases: u32, seed: u64) -> (u32, u32) {
         let text: Vec<u8> = (0..length).map(|_| (97 + random.below(letters)) as u8).collect();
         let start = random.below(length as u64 + 3) as u32;
 
-        let proved = Table { rows: made.rows, head: made.head, cells: &made.cells, marks: &made.marks };
-        let paper = Lent { rows: made.rows as usize, head: made.head as usize, cells: &made.cells, marks: &made.marks };
+        let proved = Lent { rows: made.rows, head: made.head, cells: &made.cells, marks: &made.marks };
+        let paper = find::Lent { rows: made.rows as usize, head: made.head as usize, cells: &made.cells, marks: &made.marks };
         let number = |(number, _)| number;
         assert_eq!(proved.well_formed(), paper.whole(&[]).is_ok(), "seed {seed}, case {case}");
-        assert_eq!(proved.whole(&text).map_err(|r| r.0), paper.whole(&text).map_err(number), "seed {seed}, case {case}");
+        assert_eq!(proved.whole(&text).map_err(Refusal::number), paper.whole(&text).map_err(number), "seed {seed}, case {case}");
         let longest = paper.longest(&text, start).map_err(number);
-        assert_eq!(proved.longest(&text, start).map_err(|r| r.0), longest, "seed {seed}, case {case}");
-        assert_eq!(proved.first(&text).map_err(|r| r.0), paper.first(&text).map_err(number), "seed {seed}, case {case}");
+        assert_eq!(proved.longest(&text, start).map_err(Refusal::number), longest, "seed {seed}, case {case}");
+        assert_eq!(proved.first(&text).map_err(Refusal::number), paper.first(&text).map_err(number), "seed {seed}, case {case}");
         let places = random.below(2 + length.min(20) as u64) as usize;
         let before: Vec<u32> = (0..places as u32).map(|i| 7_000_000 + i).collect();
         let mut list = before.clone();
-        let count = proved.starts(&text, &mut list).map_err(|(r, n)| (r.0, n));
+        let count = proved.starts_into(&text, &mut list).map_err(|r| match r {
+            Refusal::FewPlaces(all) => (15, all),
+            _ => (r.number(), 0),
+        });
         match paper.starts(&text, places) {
             Err(((n, _), all)) => {
                 assert_eq!(count, Err((n, all)), "seed {seed}, case {case}");
                 assert_eq!(list, before, "seed {seed}, case {case}");
             }
             Ok(all) => {
-                assert_eq!(count, Ok(all.len() as u32), "seed {seed}, case {case}");
+                assert_eq!(count, Ok(all.len()), "seed {seed}, case {case}");
                 assert_eq!(list[..all.len()], all[..], "seed {seed}, case {case}");
                 assert_eq!(list[all.len()..], before[all.len()..], "seed {seed}, case {case}");
             }

@@ -6,11 +6,9 @@ pub fn smallest(rows: &SetRows) -> Table {
     let n = rows.marks.len();
     let mut apart = vec![false; n * n];
     let mut before = vec![vec![]; n];
-    for q in 0..n {
-        let mut targets: Vec<(usize, usize)> = rows.cells[q].iter().enumerate().map(|(b, &r)| (r as usize, b)).collect();
-        targets.sort_unstable();
-        for (r, b) in targets {
-            before[r].push((b, q));
+    for (q, cells) in rows.cells.iter().enumerate() {
+        for (b, &r) in cells.iter().enumerate() {
+            before[r as usize].push((b, q));
         }
     }
     for list in &mut before {
@@ -53,10 +51,10 @@ pub fn smallest(rows: &SetRows) -> Table {
             while j < b.len() && b[j].0 == byte {
                 j += 1;
             }
-            for x in i0..i {
-                for y in j0..j {
-                    if a[x].1 != b[y].1 {
-                        mark(&mut apart, &mut todo, a[x].1, b[y].1);
+            for &(_, x) in &a[i0..i] {
+                for &(_, y) in &b[j0..j] {
+                    if x != y {
+                        mark(&mut apart, &mut todo, x, y);
                     }
                 }
             }

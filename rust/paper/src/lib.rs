@@ -19,33 +19,55 @@ pub struct Table {
 /// A refusal: number and place.
 pub type Refused = (u32, u32);
 
-/// What compiling answers where the lent room is enough for `k` rows.
-pub fn compile(pattern: &[u8], k: usize) -> Result<Table, Refused> {
+/// The table of a pattern, and S, where S is at most 1,024.
+pub fn drawn(pattern: &[u8]) -> Result<(Table, usize), Refused> {
     let tree = pattern::read(pattern)?;
     let nodes = nodes::Nodes::of(&tree).ok_or((10, 0))?;
-    let rows = nodes::SetRows::of(&nodes, k.min(1024)).ok_or((11, 0))?;
-    Ok(draw::smallest(&rows))
+    let rows = nodes::SetRows::of(&nodes, 1024).ok_or((11, 0))?;
+    Ok((draw::smallest(&rows), rows.marks.len()))
+}
+
+/// What compiling answers where the lent room is enough for `k` rows.
+pub fn compile(pattern: &[u8], k: usize) -> Result<Table, Refused> {
+    match drawn(pattern)? {
+        (_, s) if s > k => Err((11, 0)),
+        (table, _) => Ok(table),
+    }
+}
+
+/// K: the rows that lent cells, marks and set words are enough for.
+pub fn rows_for(cells: usize, marks: usize, words: usize) -> usize {
+    1024.min(cells / 256).min(marks).min(words / 32)
 }
 
 /// What the listing program prints for a pattern, without the line end that it drops.
 pub fn listing(pattern: &[u8]) -> String {
     match compile(pattern, 64) {
-        Err((n, p)) => format!("refused {n} at {p}\n"),
-        Ok(t) => {
-            let mut out = format!("rows {} head {}\n", t.rows, t.head);
-            for q in 0..t.rows {
-                out += &format!("{q} {}", t.marks[q]);
-                let row = &t.cells[256 * q..256 * q + 256];
-                let mut lo = 0;
-                for b in 0..256 {
-                    if b == 255 || row[b + 1] != row[b] {
-                        out += &format!(" {lo}-{b}>{}", row[b]);
-                        lo = b + 1;
-                    }
+        Err(refused) => line(refused),
+        Ok(table) => table.listing(),
+    }
+}
+
+/// The line of a refusal.
+pub fn line((number, place): Refused) -> String {
+    format!("refused {number} at {place}\n")
+}
+
+impl Table {
+    pub fn listing(&self) -> String {
+        let mut out = format!("rows {} head {}\n", self.rows, self.head);
+        for q in 0..self.rows {
+            out += &format!("{q} {}", self.marks[q]);
+            let row = &self.cells[256 * q..256 * q + 256];
+            let mut lo = 0;
+            for b in 0..256 {
+                if b == 255 || row[b + 1] != row[b] {
+                    out += &format!(" {lo}-{b}>{}", row[b]);
+                    lo = b + 1;
                 }
-                out += "\n";
             }
-            out
+            out += "\n";
         }
+        out
     }
 }

@@ -43,7 +43,7 @@ fn times(x: &Tree, text: &[u8], from: &[bool], least: u32, most: Option<u32>) ->
     }
     let mut all = here.clone();
     let mut k = least;
-    while most.map_or(true, |n| k < n) {
+    while most.is_none_or(|n| k < n) {
         here = ends(x, text, &here);
         let before = all.clone();
         for (a, h) in all.iter_mut().zip(&here) {

@@ -145,12 +145,13 @@ impl Nodes {
         set
     }
 
-    fn on_byte(&self, row: &BTreeSet<usize>, b: usize) -> BTreeSet<usize> {
-        let targets = row.iter().flat_map(|&u| &self.edges[u]).filter_map(|&(on, v)| match on {
-            On::Bytes(k) if self.sets[k][b] => Some(v),
+    /// The row's edges on bytes: the set's number and the target.
+    fn byte_edges(&self, row: &BTreeSet<usize>) -> Vec<(usize, usize)> {
+        let on_bytes = |&(on, v)| match on {
+            On::Bytes(k) => Some((k, v)),
             _ => None,
-        });
-        self.close(targets, |on| on == On::Empty)
+        };
+        row.iter().flat_map(|&u| &self.edges[u]).filter_map(on_bytes).collect()
     }
 
     fn mark(&self, row: &BTreeSet<usize>, head: bool) -> u8 {
@@ -187,8 +188,16 @@ impl SetRows {
             let q = all.cells.len();
             all.marks.push(nodes.mark(&rows[q], q == 1));
             let mut cells = [0; 256];
-            for b in 0..256 {
-                let to = nodes.on_byte(&rows[q], b);
+            // the rows that targets lead to, so that bytes with the same targets are closed once
+            let mut led = HashMap::new();
+            let edges = nodes.byte_edges(&rows[q]);
+            for (b, cell) in cells.iter_mut().enumerate() {
+                let targets: Vec<usize> = edges.iter().filter(|(k, _)| nodes.sets[*k][b]).map(|&(_, v)| v).collect();
+                if let Some(&r) = led.get(&targets) {
+                    *cell = r;
+                    continue;
+                }
+                let to = nodes.close(targets.iter().copied(), |on| on == On::Empty);
                 let next = rows.len();
                 let r = *known.entry(to.clone()).or_insert(next);
                 if r == next {
@@ -197,7 +206,8 @@ impl SetRows {
                     }
                     rows.push(to);
                 }
-                cells[b] = r as u16;
+                *cell = r as u16;
+                led.insert(targets, *cell);
             }
             all.cells.push(cells);
         }

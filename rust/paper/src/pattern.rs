@@ -20,7 +20,9 @@ pub enum Tree {
 
 const SPECIAL: &[u8] = b".[]()|*+?{}^$\\";
 
-const NAMED: [(&[u8], &[(u8, u8)]); 7] = [
+type Named = (&'static [u8], &'static [(u8, u8)]);
+
+const NAMED: [Named; 7] = [
     (b"[:digit:]", &[(48, 57)]),
     (b"[:upper:]", &[(65, 90)]),
     (b"[:lower:]", &[(97, 122)]),

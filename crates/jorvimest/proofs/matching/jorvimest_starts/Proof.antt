@@ -1,10 +1,10 @@
+-- `jorvimest_starts` meets its contract: the code, the number and the list of the matcher's answer.
 use borrow.Author.Needs.{needs}
 use mathlib.Core.Path.{ap}
 use Rattle.rules.specs.Matchers.{Listed}
-use Rattle.jorvimest.proofs.jorvimest_starts.Statement.{statement}
-use Rattle.jorvimest.proofs.jorvimest_starts.Tie as tie
+use Rattle.jorvimest.proofs.matching.jorvimest_starts.Statement.{statement}
+use Rattle.jorvimest.proofs.matching.jorvimest_starts.Tie as tie
 
--- src/lib.rt:166:1
 returns : tie.Need-returns
 returns c =
     let answer = c .before .before .before .before .before .starts .ensures in (

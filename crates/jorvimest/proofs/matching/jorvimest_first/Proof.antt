@@ -1,8 +1,8 @@
+-- `jorvimest_first` meets its contract: the code, the start and the end of the matcher's answer.
 use borrow.Author.Needs.{needs}
-use Rattle.jorvimest.proofs.jorvimest_first.Statement.{statement}
-use Rattle.jorvimest.proofs.jorvimest_first.Tie as tie
+use Rattle.jorvimest.proofs.matching.jorvimest_first.Statement.{statement}
+use Rattle.jorvimest.proofs.matching.jorvimest_first.Tie as tie
 
--- src/lib.rt:145:1
 returns : tie.Need-returns
 returns c =
     let answer = c .before .before .before .before .before .first .ensures in

@@ -1,7 +1,7 @@
 -- `jorvimest_whole` meets its contract: the code of the matcher's answer.
 use borrow.Author.Needs.{needs}
-use Rattle.jorvimest.proofs.jorvimest_whole.Statement.{statement}
-use Rattle.jorvimest.proofs.jorvimest_whole.Tie as tie
+use Rattle.jorvimest.proofs.matching.jorvimest_whole.Statement.{statement}
+use Rattle.jorvimest.proofs.matching.jorvimest_whole.Tie as tie
 
 returns : tie.Need-returns
 returns c = cc (c .whole-code .ensures, c .before .whole .ensures)

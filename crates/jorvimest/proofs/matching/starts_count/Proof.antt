@@ -1,8 +1,8 @@
+-- `starts_count` meets its contract: of a refusal it is what comes with it.
 use borrow.Author.Needs.{needs}
-use Rattle.jorvimest.proofs.starts_count.Statement.{statement}
-use Rattle.jorvimest.proofs.starts_count.Tie as tie
+use Rattle.jorvimest.proofs.matching.starts_count.Statement.{statement}
+use Rattle.jorvimest.proofs.matching.starts_count.Tie as tie
 
--- src/lib.rt:96:1
 returns : tie.Need-returns
 returns c = rw (c .before .before .answer .given .1) (c .count-of .ensures)
 

@@ -1,7 +1,7 @@
 -- `jorvimest_longest` meets its contract: the code and the end of the matcher's answer.
 use borrow.Author.Needs.{needs}
-use Rattle.jorvimest.proofs.jorvimest_longest.Statement.{statement}
-use Rattle.jorvimest.proofs.jorvimest_longest.Tie as tie
+use Rattle.jorvimest.proofs.matching.jorvimest_longest.Statement.{statement}
+use Rattle.jorvimest.proofs.matching.jorvimest_longest.Tie as tie
 
 returns : tie.Need-returns
 returns c =

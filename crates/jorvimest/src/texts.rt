@@ -1,0 +1,68 @@
+// The listing of a table and the line of a refusal, over numbers and slices.
+ghost use mathlib.Core.Path.{_≡_};
+ghost use Rattle.rules.specs.Answers.{refusal, refused, given};
+ghost use Rattle.rules.specs.Listing as rule;
+ghost use Rattle.table.specs.Lent.{tableOf};
+ghost use Rattle.writing.specs.Texts.{textOf, shownIn};
+ghost use Rattle.listing.specs.Lines.{listingOf};
+ghost use Rattle.jorvimest.specs.Codes.{textCode, textLength};
+use kinds::Row;
+use writing::Text;
+
+// 0 for a whole text, 1 for the beginning of a longer one, a refusal's number.
+fn text_code(answer: Text) -> u32
+    ensures { λ r. ⌜ r ≡ textCode (textOf answer) ⌝ }
+{
+    match answer {
+        Text::Refused(r) => kinds::number(r),
+        Text::Written(_) => 0,
+        Text::Longer(_) => 1,
+    }
+}
+
+// The text's length, or else what stood there.
+fn text_length(answer: Text, old: u32) -> u32
+    ensures { λ r. ⌜ r ≡ textLength old (textOf answer) ⌝ }
+{
+    match answer {
+        Text::Refused(_) => old,
+        Text::Written(n) => n,
+        Text::Longer(n) => n,
+    }
+}
+
+// The listing is put into the lent buffer, as far as it reaches, and the listing's length into the lent number.
+#[no_mangle]
+pub extern "C" fn jorvimest_listing(
+    rows: u16,
+    head: u16,
+    cells: &[u16],
+    marks: &[u8],
+    out: &mut [u8],
+    length: &mut u32,
+) -> u32
+    ensures code { λ r. ⌜ r ≡ textCode (shownIn (now (out .entry)) (listingOf (tableOf rows head (now (marks .entry)) (now (cells .entry)))) .answer) ⌝ }
+    ensures length { λ r. ⌜ now (length .exit) ≡ textLength (now (length .entry)) (shownIn (now (out .entry)) (listingOf (tableOf rows head (now (marks .entry)) (now (cells .entry)))) .answer) ⌝ }
+    ensures out { λ r. ⌜ now (out .exit) ≡ shownIn (now (out .entry)) (listingOf (tableOf rows head (now (marks .entry)) (now (cells .entry)))) .buffer ⌝ }
+{
+    let answer = listing::write_table(rows, Row(head), cells, marks, out);
+    *length = text_length(answer, *length);
+    text_code(answer)
+}
+
+// The same of the line of a refusal with any number and any place.
+#[no_mangle]
+pub extern "C" fn jorvimest_refusal(
+    number: u32,
+    place: u32,
+    out: &mut [u8],
+    length: &mut u32,
+) -> u32
+    ensures code { λ r. ⌜ r ≡ textCode (shownIn (now (out .entry)) (given (rule.listing (refused (refusal number place)))) .answer) ⌝ }
+    ensures length { λ r. ⌜ now (length .exit) ≡ textLength (now (length .entry)) (shownIn (now (out .entry)) (given (rule.listing (refused (refusal number place)))) .answer) ⌝ }
+    ensures out { λ r. ⌜ now (out .exit) ≡ shownIn (now (out .entry)) (given (rule.listing (refused (refusal number place)))) .buffer ⌝ }
+{
+    let answer = listing::write_refused(number, place, out);
+    *length = text_length(answer, *length);
+    text_code(answer)
+}
