@@ -7,7 +7,7 @@ use native.Mathlib.Omega.{arith}
 use lib.Dec.{leb}
 use borrow.Author.Tests.{leb-true}
 use Rattle.rules.specs.Tools.{guard, orElse}
-use Rattle.rules.specs.Signs.{within, digit, hexDigit}
+use Rattle.rules.specs.Signs.{within, hexDigit}
 
 both-true : (a b : Bool) → (a && b) ≡ true → (a ≡ true) × (b ≡ true)
 both-true true b e = (refl, e)
@@ -23,9 +23,6 @@ within-low lo hi c e = within-both lo hi c e .0
 in-range : {x : ℕ} (lo hi off c : ℕ) (b : Bool) → within lo hi c ≡ b → guard b (c - off) ≡ some x → x ≤ hi - off
 in-range {x} lo hi off c true w e = let q : c - off ≡ x = cc in let h = within-both lo hi c w in omega arith
 in-range lo hi off c false w e = absurd (let z : _≡_ {A = ℕ} 0 1 = cc in omega arith)
-
-pub digit-small : (c : ℕ) {x : ℕ} → digit c ≡ some x → x < 10
-digit-small c {x} e = let h = in-range {x = x} 48 57 48 c (within 48 57 c) refl e in omega arith
 
 pub hex-small : (c : ℕ) {x : ℕ} → hexDigit c ≡ some x → x < 16
 hex-small c {x} = go (within 48 57 c) (within 65 70 c) (within 97 102 c) refl refl refl

@@ -112,9 +112,6 @@ module _ (m v : ℕ) where
   with-other : (x : ℕ) → x ≢ v → has (with m v) x ≡ has m x
   with-other x ne = both-ways (has (with m v) x) (has m x) ((λ h. ⊎-elim (λ e. absurd (ne e)) (λ g. g) (with-only m v x h)), with-keeps m v x)
 
-  pub with-there : T (has m v) → with m v ≡ m
-  with-there h = by-test (has m v) (λ b. elim b [ true ↦ m | false ↦ m + 2 ^ v ] ≡ m) (λ g. refl) (λ n. absurd (n h))
-
   pub with-new : (T (has m v) → ⊥) → with m v ≡ m + 2 ^ v
   with-new n = by-test (has m v) (λ b. elim b [ true ↦ m | false ↦ m + 2 ^ v ] ≡ m + 2 ^ v) (λ h. absurd (n h)) (λ g. refl)
 

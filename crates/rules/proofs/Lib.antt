@@ -22,7 +22,6 @@ pub mod SetRowsAll
 -- a row that a byte leads to is fixed by the nodes it was taken from
 pub mod TidyNodes
 pub mod Taken
-pub mod TakenRows
 -- merged, they make its drawing, the only one
 pub mod Classes
 pub mod Unique

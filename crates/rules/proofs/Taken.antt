@@ -1,34 +1,20 @@
 -- Taken sets: a row that a byte reaches is fixed by the nodes whose edge was just taken, and fixes them.
 use mathlib.Core.Path.{_≡_, refl, _∙_, sym, ap, subst}
-use mathlib.Core.Logic.{_≢_, _↔_, Iff·trans}
+use mathlib.Core.Logic.{_≢_, _↔_}
 use mathlib.Core.Bool.{false}
-use Prim.Native.Nat.{ℕ, zero, suc, _+_, _-_, _*_, _/_, _%_, _<_, _≤_, _^_, min}
+use Prim.Native.Nat.{ℕ, zero, suc, _+_, _-_, _*_, _/_, _<_, _≤_, _^_}
 use native.Mathlib.Omega.{arith}
-use lib.Bits.{bitAnd, and-step, and-shr}
 use lib.Dec.{T, eqb}
 use lib.Pow.{pow-pos}
 use Rattle.rules.specs.Tools.{has}
 use Rattle.rules.specs.Nodes.{Kind, empty, onHead, onTail, onBytes, Edge}
 use Rattle.rules.specs.SetRows.{onEmpty, onByte, across, closure, SetRow, Machine, inside, next}
-use Rattle.rules.proofs.Sets.{bit, bit-zero, bit-suc, has-bit, bit-has, same-members, zero-has}
-use Rattle.rules.proofs.Edges.{_∈_, All}
+use Rattle.rules.proofs.Sets.{bit, bit-zero, bit-suc, has-bit, same-members, zero-has}
+use Rattle.rules.proofs.Edges.{_∈_}
 use Rattle.rules.proofs.Closing.{across-lt, across-adds, across-ind, closed-keeps, closed-ind}
 use Rattle.rules.proofs.TidyNodes.{isBytes, Neat}
 
 -- ---- sets
-
--- what two sets have in common
-meet-bit : (m q k : ℕ) → bit (bitAnd m q) k ≡ min (bit m k) (bit q k)
-meet-bit m q k = ap (λ (x : ℕ). x % 2) (and-shr m q k) ∙ lowest (m / 2 ^ k) (q / 2 ^ k)
-  where
-    lowest : (a c : ℕ) → bitAnd a c % 2 ≡ min (a % 2) (c % 2)
-    lowest a c = omega (arith, and-step a c)
-
-pub meet-has : (m q k : ℕ) → T (has (bitAnd m q) k) ↔ (T (has m k) × T (has q k))
-meet-has m q k = (
-  (λ h. (bit-has m k (omega (arith, meet-bit m q k, has-bit (bitAnd m q) k h)), bit-has q k (omega (arith, meet-bit m q k, has-bit (bitAnd m q) k h)))),
-  λ h. bit-has (bitAnd m q) k (omega (arith, meet-bit m q k, has-bit m k (h .0), has-bit q k (h .1))),
-)
 
 -- the nodes after those of a set
 twice-has : (m k : ℕ) → has (m * 2) (suc k) ≡ has m k
@@ -63,45 +49,11 @@ module _ (w : Machine) where
   pub record Taken (r : SetRow) (b A : ℕ) : Type 0 where
     pub just : (u : ℕ) → T (has A u) ↔ (T (has (r .nodes) u) × Leaves b u)
 
-  -- no edge tells the bytes apart
-  abbrev pub Alike : ℕ → ℕ → Type 0
-  Alike b c = All (λ x. onByte b (x .on) ≡ onByte c (x .on)) (w .links)
-
-  leaves-alike : (b c u : ℕ) → Alike b c → Leaves b u ↔ Leaves c u
-  leaves-alike b c u same = (
-    (λ h. let (x, i, t, e) = h in (x, i, rw (same x i) at t, e)),
-    λ h. let (x, i, t, e) = h in (x, i, rw (sym (same x i)) at t, e),
-  )
-
-module _ {w : Machine} where
-  pub leaving-alike : {b c M : ℕ} → Alike w b c → Leaving w b M → Leaving w c M
-  leaving-alike {b} {c} same l = record { just = λ u. Iff·trans (l .just u) (leaves-alike w b c u same) }
-
-  taken-alike : {r : SetRow} {b c A : ℕ} → Alike w b c → Taken w r b A → Taken w r c A
-  taken-alike {b = b} {c} same a = record {
-    just = λ u. (
-      (λ h. let (i, l) = a .just u .0 h in (i, leaves-alike w b c u same .0 l)),
-      λ h. a .just u .1 (h .0, leaves-alike w b c u same .1 (h .1)),
-    );
-  }
-
-  pub taken-meet : {r : SetRow} {b M m : ℕ} → r .nodes ≡ m → Leaving w b M → Taken w r b (bitAnd m M)
-  taken-meet {r} {b} {M} e l = rw (← e) (record {
-    just = λ u. ((λ h. let (i, j) = meet-has (r .nodes) M u .0 h in (i, l .just u .0 j)), λ h. meet-has (r .nodes) M u .1 (h .0, l .just u .1 (h .1)));
-  })
-
-  pub taken-once : {r : SetRow} {b A C : ℕ} → Taken w r b A → Taken w r b C → A ≡ C
-  taken-once {A = A} {C} a c = same-set A C (λ u. ((λ h. c .just u .1 (a .just u .0 h)), λ h. a .just u .1 (c .just u .0 h)))
-
 -- ---- the row of a taken set
 
 -- the row closed from the nodes after those of A
 abbrev pub rowOf : Machine → ℕ → SetRow
 rowOf w A = record { isHead = false; nodes = closure w onEmpty (A * 2) }
-
--- the nodes whose edge is taken from the row on byte b
-abbrev pub takenOn : Machine → SetRow → ℕ → ℕ
-takenOn w r b = across (onByte b) (w .links) (r .nodes) 0 / 2
 
 -- an edge on bytes leaves each node of A
 pub record Takable (w : Machine) (A : ℕ) : Type 0 where
@@ -147,28 +99,6 @@ module _ {w : Machine} (ok : Neat w) where
       small = rw (← across-taken) (across-lt (onByte b) (r .nodes) (w .count) (w .links) 0 (ok .below) (pow-pos (w .count)));
       bytes = λ u h. let (k, (x, i, t, e)) = a .just u .0 h in (x, i, byte-kind b (x .on) t, e);
     }
-
-  -- what is taken, as a number
-  pub taken-is : (r : SetRow) (b : ℕ) → Taken w r b (takenOn w r b)
-  taken-is r b = record { just = λ u. (into u, out u) }
-    where
-      targets : ℕ
-      targets = across (onByte b) (w .links) (r .nodes) 0
-
-      after : (u : ℕ) → has targets (suc u) ≡ has (takenOn w r b) u
-      after u = ap (λ (x : ℕ). eqb x 1) (bit-suc targets u)
-
-      into : (u : ℕ) → T (has (takenOn w r b) u) → T (has (r .nodes) u) × Leaves w b u
-      into u h = across-ind (onByte b) (r .nodes) (λ v. v ≡ suc u → T (has (r .nodes) u) × Leaves w b u) (w .links) 0
-          (λ x i t k e. let f : x .from ≡ u = omega (arith, e, ok .up x i (byte-kind b (x .on) t)) in (rw f at k, (x, i, t, f)))
-          (λ v z. absurd (zero-has v z)) (suc u) (rw (after u) h) refl
-
-      out : (u : ℕ) → T (has (r .nodes) u) × Leaves w b u → T (has (takenOn w r b) u)
-      out u h = let (k, (x, i, t, e)) = h in
-          rw (← after u, ← e, ← ok .up x i (byte-kind b (x .on) t)) (across-adds (onByte b) (r .nodes) (w .links) 0 x i t (rw e k))
-
-  pub next-alike : (r : SetRow) (b c : ℕ) → Alike w b c → next w r b ≡ next w r c
-  next-alike r b c same = next-taken (taken-is r b) ∙ sym (next-taken (taken-alike same (taken-is r b)))
 
   -- no empty edge enters a node after one of A, so closing adds no such node
   back : (A : ℕ) (x : Edge) → x ∈ w .links → T (isBytes (x .on)) → T (has (rowOf w A .nodes) (x .to)) → T (has A (x .from))
