@@ -1,0 +1,2 @@
+pub mod DotLaws
+pub mod Lengths
