@@ -11,12 +11,9 @@ use crate::words::is_in;
 use crate::words::put_in;
 use crate::words::take_out;
 use kinds::Node;
-
-const EMPTY: u8 = 1;
-
-const HEAD: u8 = 2;
-
-const TAIL: u8 = 3;
+use nodes::EMPTY;
+use nodes::HEAD;
+use nodes::TAIL;
 
 // The targets of the edges of a node that are crossed.
 enum Targets {

@@ -13,8 +13,7 @@ use crate::words::is_in;
 use crate::words::meet;
 use crate::words::put_in;
 use kinds::Node;
-
-const TAIL: u8 = 3;
+use nodes::TAIL;
 
 // Puts node u in, if a tail edge leaves it.
 fn put_tail(set: &mut [u64], kind: &[u8], u: usize)

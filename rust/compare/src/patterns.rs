@@ -6,7 +6,8 @@ use crate::Random;
 const SIGNS: &[u8] = b".[]()|*+?{}^$\\-,:=!nrtx019afAFgz \n\x00\x7f\xff";
 
 /// What classes are made of, right and wrong.
-const CLASS_PARTS: &str = r"a b z 0 9 . ^ - - - [ ] \ \- \] \x3F \xc0 \n [:digit:] [:upper:] [:xdigit:] [:space:] [:Alpha:] [: :]";
+const CLASS_PARTS: &str =
+    r"a b z 0 9 . ^ - - - [ ] \ \- \] \x3F \xc0 \n [:digit:] [:upper:] [:xdigit:] [:space:] [:Alpha:] [: :]";
 
 const NAMES: &str = "digit upper lower alpha alnum xdigit space";
 
@@ -94,11 +95,7 @@ fn sign(random: &mut Random, out: &mut Vec<u8>) {
         2 => out.push(b'+'),
         3 => out.push(b'?'),
         4 => {
-            let m = if random.below(20) == 0 {
-                random.below(256)
-            } else {
-                random.below(4)
-            };
+            let m = if random.below(20) == 0 { random.below(256) } else { random.below(4) };
             let n = (m + random.below(3)).min(255);
             let text = match random.below(5) {
                 0 => format!("{{{m}}}"),
@@ -118,16 +115,8 @@ fn escape(random: &mut Random, out: &mut Vec<u8>) {
         0 => out.push(random.one_of(b".[]()|*+?{}^$\\-")),
         1 => out.push(random.one_of(b"nrt")),
         _ => {
-            let b = if random.below(2) == 0 {
-                97 + random.below(3)
-            } else {
-                random.below(256)
-            };
-            let text = if random.below(2) == 0 {
-                format!("x{b:02x}")
-            } else {
-                format!("x{b:02X}")
-            };
+            let b = if random.below(2) == 0 { 97 + random.below(3) } else { random.below(256) };
+            let text = if random.below(2) == 0 { format!("x{b:02x}") } else { format!("x{b:02X}") };
             out.extend_from_slice(text.as_bytes());
         }
     }

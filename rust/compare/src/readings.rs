@@ -73,11 +73,7 @@ pub fn tally(patterns: impl Iterator<Item = Vec<u8>>) -> Tally {
 
 /// Holds printed answers to the paper's, one for each pattern.
 pub fn check(patterns: &[Vec<u8>], answers: &str) {
-    assert_eq!(
-        answers.lines().count(),
-        patterns.len(),
-        "answers, and patterns"
-    );
+    assert_eq!(answers.lines().count(), patterns.len(), "answers, and patterns");
     for (pattern, found) in patterns.iter().zip(answers.lines()) {
         assert_eq!(found, answer(pattern), "the pattern {}", line_of(pattern));
     }

@@ -14,15 +14,9 @@ fn main() {
     if words.get(2).is_some_and(|w| w == "check") {
         check(&patterns, &read_to_string(stdin()).expect("answers"));
         let tally = tally(patterns.into_iter());
-        println!(
-            "{cases} patterns, seed {seed}: no difference; {} taken, refused by number {:?}",
-            tally[0],
-            &tally[1..]
-        );
+        println!("{cases} patterns, seed {seed}: no difference; {} taken, refused by number {:?}", tally[0], &tally[1..]);
         return;
     }
     let lines: Vec<_> = patterns.iter().map(|p| line_of(p) + "\n").collect();
-    std::io::stdout()
-        .write_all(lines.concat().as_bytes())
-        .expect("written");
+    std::io::stdout().write_all(lines.concat().as_bytes()).expect("written");
 }
