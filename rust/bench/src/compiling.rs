@@ -74,6 +74,13 @@ fn race(pattern: &Pattern, with_paper: bool) -> f64 {
     proved / model
 }
 
+/// Compiles the pattern of this name once, for a count of instructions.
+pub fn once(name: &str) {
+    let named = usual().into_iter().chain(worst()).find(|pattern| pattern.name == name).expect("a pattern of that name");
+    let answer = Room::for_rows(1024).proved(&named.bytes);
+    println!("{name}: {answer:?}");
+}
+
 pub fn run() {
     println!("compiling in exact room, microseconds");
     println!(

@@ -72,6 +72,11 @@ mod patterns;
 
 fn main() {
     let asked: Vec<String> = std::env::args().skip(1).collect();
+    if let [once, name] = &asked[..] {
+        if once == "once" {
+            return compiling::once(name);
+        }
+    }
     let parts: [(&str, fn()); 3] = [("walks", walks), ("finders", finders::run), ("compiling", compiling::run)];
     for (name, run) in parts {
         if asked.is_empty() || asked.iter().any(|word| word == name) {

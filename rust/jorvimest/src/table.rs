@@ -91,6 +91,15 @@ impl Table {
     }
 }
 
+/// What a linked function answers over the table: it is given the table's numbers and slices, then what else is named.
+macro_rules! over_table {
+    ($table:expr, $function:ident $(, $given:expr)*) => {{
+        let Table { rows, head, cells, marks } = $table.lent();
+        // SAFETY: each pointer is a slice's and stands with its length, or a number's; the function writes only behind mutable ones
+        unsafe { linked::$function(rows, head, cells.as_ptr(), cells.len(), marks.as_ptr(), marks.len() $(, $given)*) }
+    }};
+}
+
 impl<Cells: AsRef<[u16]>, Marks: AsRef<[u8]>> Table<Cells, Marks> {
     /// The cells of its rows, as far as there are any.
     fn row_cells(&self) -> &[u16] {
@@ -116,25 +125,12 @@ impl<Cells: AsRef<[u16]>, Marks: AsRef<[u8]>> Table<Cells, Marks> {
     /// Whether the row count is from 1 to 1,024, there are cells and marks for it, the head row and all cells are below it, and all
     /// marks are 0, 2 or 3. Every other method refuses a table that is not well formed.
     pub fn well_formed(&self) -> bool {
-        let Table { rows, head, cells, marks } = self.lent();
-        unsafe { linked::jorvimest_well_formed(rows, head, cells.as_ptr(), cells.len(), marks.as_ptr(), marks.len()) }
+        over_table!(self, jorvimest_well_formed)
     }
 
     /// Whether the whole text matches.
     pub fn whole(&self, text: &[u8]) -> Result<bool, Refusal> {
-        let Table { rows, head, cells, marks } = self.lent();
-        let code = unsafe {
-            linked::jorvimest_whole(
-                rows,
-                head,
-                cells.as_ptr(),
-                cells.len(),
-                marks.as_ptr(),
-                marks.len(),
-                text.as_ptr(),
-                text.len(),
-            )
-        };
+        let code = over_table!(self, jorvimest_whole, text.as_ptr(), text.len());
         Ok(found(code)?.is_some())
     }
 
@@ -147,22 +143,8 @@ impl<Cells: AsRef<[u16]>, Marks: AsRef<[u8]>> Table<Cells, Marks> {
     /// # Ok::<(), jorvimest::Refusal>(())
     /// ```
     pub fn longest(&self, text: &[u8], start: u32) -> Result<Option<u32>, Refusal> {
-        let Table { rows, head, cells, marks } = self.lent();
         let mut end = 0;
-        let code = unsafe {
-            linked::jorvimest_longest(
-                rows,
-                head,
-                cells.as_ptr(),
-                cells.len(),
-                marks.as_ptr(),
-                marks.len(),
-                text.as_ptr(),
-                text.len(),
-                start,
-                &mut end,
-            )
-        };
+        let code = over_table!(self, jorvimest_longest, text.as_ptr(), text.len(), start, &mut end);
         Ok(found(code)?.map(|()| end))
     }
 
@@ -174,44 +156,15 @@ impl<Cells: AsRef<[u16]>, Marks: AsRef<[u8]>> Table<Cells, Marks> {
     /// # Ok::<(), jorvimest::Refusal>(())
     /// ```
     pub fn first(&self, text: &[u8]) -> Result<Option<(u32, u32)>, Refusal> {
-        let Table { rows, head, cells, marks } = self.lent();
         let (mut start, mut end) = (0, 0);
-        let code = unsafe {
-            linked::jorvimest_first(
-                rows,
-                head,
-                cells.as_ptr(),
-                cells.len(),
-                marks.as_ptr(),
-                marks.len(),
-                text.as_ptr(),
-                text.len(),
-                &mut start,
-                &mut end,
-            )
-        };
+        let code = over_table!(self, jorvimest_first, text.as_ptr(), text.len(), &mut start, &mut end);
         Ok(found(code)?.map(|()| (start, end)))
     }
 
     /// Every start that has any match, ascending, in the first places of the lent list; their number. A refusal leaves the list.
     pub fn starts_into(&self, text: &[u8], list: &mut [u32]) -> Result<usize, Refusal> {
-        let Table { rows, head, cells, marks } = self.lent();
         let mut count = 0;
-        let code = unsafe {
-            linked::jorvimest_starts(
-                rows,
-                head,
-                cells.as_ptr(),
-                cells.len(),
-                marks.as_ptr(),
-                marks.len(),
-                text.as_ptr(),
-                text.len(),
-                list.as_mut_ptr(),
-                list.len(),
-                &mut count,
-            )
-        };
+        let code = over_table!(self, jorvimest_starts, text.as_ptr(), text.len(), list.as_mut_ptr(), list.len(), &mut count);
         match code {
             0 => Ok(count as usize),
             n => Err(Refusal::of(n, 0, count)),
@@ -241,21 +194,8 @@ impl<Cells: AsRef<[u16]>, Marks: AsRef<[u8]>> Table<Cells, Marks> {
 
     /// The listing in a lent buffer.
     pub fn listing_into(&self, out: &mut [u8]) -> Result<Text, Refusal> {
-        let Table { rows, head, cells, marks } = self.lent();
         let mut length = 0;
-        let code = unsafe {
-            linked::jorvimest_listing(
-                rows,
-                head,
-                cells.as_ptr(),
-                cells.len(),
-                marks.as_ptr(),
-                marks.len(),
-                out.as_mut_ptr(),
-                out.len(),
-                &mut length,
-            )
-        };
+        let code = over_table!(self, jorvimest_listing, out.as_mut_ptr(), out.len(), &mut length);
         Text::of(code, length)
     }
 
