@@ -11,7 +11,7 @@ pub const ROWS: usize = ROWS_MOST as usize;
 pub const ROW_WORDS: usize = ROWS / 64;
 
 // The row that row q, of n, goes to on the byte b.
-pub fn target(cells: &[u16], n: usize, q: usize, b: u8) -> usize
+pub fn goes_to(cells: &[u16], n: usize, q: usize, b: u8) -> usize
     requires { ⌜ Rows (now cells) n × (q < n) ⌝ }
     ensures { λ r. ⌜ (r < n) × (r ≡ getD (now (cells .entry)) (256 * q + b) 0) ⌝ }
 {

@@ -5,7 +5,7 @@ ghost use lib.ListN.{length};
 ghost use Rattle.merge.specs.Rounds.{Rows};
 ghost use Rattle.merge.specs.Dirty.{rowWords, Grown, RowListed};
 use crate::grid::ROWS;
-use crate::grid::target;
+use crate::grid::goes_to;
 use sets;
 
 // Puts row i down at each of its targets.
@@ -15,7 +15,7 @@ fn list_row(cells: &[u16], bytes: &[u8], n: usize, preds: &mut [u64], i: usize)
 {
     let mut k: usize = 0;
     while k < bytes.len() {
-        let t = target(cells, n, i, bytes[k]);
+        let t = goes_to(cells, n, i, bytes[k]);
         sets::put(preds, ROWS * t + i);
         k += 1;
     }

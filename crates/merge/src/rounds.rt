@@ -4,7 +4,7 @@ ghost use Prim.Native.Nat.{_+_, _*_, _≤_, _<_};
 ghost use lib.ListN.{length};
 ghost use Rattle.merge.specs.Rounds.{Given, Names, Tells, Parted, Found, Round, Quiet, Firsts, Follows};
 use crate::grid::ROWS;
-use crate::grid::target;
+use crate::grid::goes_to;
 use kinds::ROWS_MOST;
 use sets;
 
@@ -15,8 +15,8 @@ fn alike(cells: &[u16], class: &[u16], bytes: &[u8], a: usize, b: usize) -> bool
 {
     let mut k: usize = 0;
     while k < bytes.len() {
-        let x = target(cells, class.len(), a, bytes[k]);
-        let y = target(cells, class.len(), b, bytes[k]);
+        let x = goes_to(cells, class.len(), a, bytes[k]);
+        let y = goes_to(cells, class.len(), b, bytes[k]);
         if class[x] != class[y] {
             return false;
         }

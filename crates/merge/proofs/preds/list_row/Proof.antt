@@ -17,29 +17,29 @@ loop-holds c =
     let S = c .before .before .before in
     (search needs, listing-none (S .args .cells .now) (S .args .bytes .now) (S .args .preds .now) (S .args .i))
 
-shared-slice-read-target : tie.Need-shared-slice-read-target Inv-loop μ-loop
-shared-slice-read-target c = search needs
+shared-slice-read-goes-to : tie.Need-shared-slice-read-goes-to Inv-loop μ-loop
+shared-slice-read-goes-to c = search needs
 
-target-requires : tie.Need-target-requires Inv-loop μ-loop
-target-requires c κs =
+goes-to-requires : tie.Need-goes-to-requires Inv-loop μ-loop
+goes-to-requires c κs =
     let S = c .before .before .before .before .before .before in
     (S .pre .0, S .pre .1 .0)
 
 mul-put : tie.Need-mul-put Inv-loop μ-loop
 mul-put c =
     let S = c .before .before .before .before .before .before .before .before in
-    omega (arith, c .before .target .ensures .0, S .pre .0 .few)
+    omega (arith, c .before .goes-to .ensures .0, S .pre .0 .few)
 
 add-put : tie.Need-add-put Inv-loop μ-loop
 add-put c =
     let S = c .before .before .before .before .before .before .before .before in
-    omega (arith, c .before .target .ensures .0, S .pre .0 .few, S .pre .1 .0)
+    omega (arith, c .before .goes-to .ensures .0, S .pre .0 .few, S .pre .1 .0)
 
 put-requires : tie.Need-put-requires Inv-loop μ-loop
 put-requires c κs =
     let L = c .before .before .before .before in
     let S = L .before .before .before .before in
-    omega (arith, c .before .target .ensures .0, S .pre .0 .few, S .pre .1 .0, S .pre .1 .1, L .loop .inv .1 .grown .long)
+    omega (arith, c .before .goes-to .ensures .0, S .pre .0 .few, S .pre .1 .0, S .pre .1 .1, L .loop .inv .1 .grown .long)
 
 add-k : tie.Need-add-k Inv-loop μ-loop
 add-k c = search needs
@@ -51,7 +51,7 @@ loop-again : tie.Need-loop-again Inv-loop μ-loop
 loop-again c =
     let L = c .before .before .before .before .before .before .before in
     let S = L .before .before .before .before in
-    (search needs, rw (c .before .before .put .ensures) (listing-more (L .loop .inv .1) (c .before .before .before .before .target .ensures .1) (omega (arith, c .before .before .before .before .target .ensures .0, S .pre .0 .few, S .pre .1 .0, S .pre .1 .1, L .loop .inv .1 .grown .long))))
+    (search needs, rw (c .before .before .put .ensures) (listing-more (L .loop .inv .1) (c .before .before .before .before .goes-to .ensures .1) (omega (arith, c .before .before .before .before .goes-to .ensures .0, S .pre .0 .few, S .pre .1 .0, S .pre .1 .1, L .loop .inv .1 .grown .long))))
 
 same-length : tie.Need-same-length Inv-loop μ-loop
 same-length c =
@@ -70,8 +70,8 @@ list-row-spec =
     Inv-loop
     μ-loop
     loop-holds
-    shared-slice-read-target
-    target-requires
+    shared-slice-read-goes-to
+    goes-to-requires
     mul-put
     add-put
     put-requires

@@ -20,33 +20,33 @@ abbrev μ-loop : tie.MeasureT-loop
 loop-holds : tie.Need-loop-holds Inv-loop μ-loop
 loop-holds c = (search needs, λ j l. absurd (omega arith))
 
-shared-slice-read-target : tie.Need-shared-slice-read-target Inv-loop μ-loop
-shared-slice-read-target c = search needs
+shared-slice-read-goes-to : tie.Need-shared-slice-read-goes-to Inv-loop μ-loop
+shared-slice-read-goes-to c = search needs
 
-target-requires : tie.Need-target-requires Inv-loop μ-loop
-target-requires c κs =
+goes-to-requires : tie.Need-goes-to-requires Inv-loop μ-loop
+goes-to-requires c κs =
     let S = c .before .before .before .before .before .before in
     (S .pre .0 .rows, omega arith)
 
-shared-slice-read-target-2 : tie.Need-shared-slice-read-target-2 Inv-loop μ-loop
-shared-slice-read-target-2 c = search needs
+shared-slice-read-goes-to-2 : tie.Need-shared-slice-read-goes-to-2 Inv-loop μ-loop
+shared-slice-read-goes-to-2 c = search needs
 
-target-requires-2 : tie.Need-target-requires-2 Inv-loop μ-loop
-target-requires-2 c κs =
+goes-to-requires-2 : tie.Need-goes-to-requires-2 Inv-loop μ-loop
+goes-to-requires-2 c κs =
     let S = c .before .before .before .before .before .before .before .before in
     (S .pre .0 .rows, omega arith)
 
 mul-if1 : tie.Need-mul-if1 Inv-loop μ-loop
-mul-if1 c = omega (arith, c .before .before .target .ensures .0)
+mul-if1 c = omega (arith, c .before .before .goes-to .ensures .0)
 
 shared-slice-read-if1 : tie.Need-shared-slice-read-if1 Inv-loop μ-loop
-shared-slice-read-if1 c = c .before .before .before .target .ensures .0
+shared-slice-read-if1 c = c .before .before .before .goes-to .ensures .0
 
 mul-if1-2 : tie.Need-mul-if1-2 Inv-loop μ-loop
-mul-if1-2 c = omega (arith, c .before .target2 .ensures .0)
+mul-if1-2 c = omega (arith, c .before .goes-to2 .ensures .0)
 
 shared-slice-read-if1-2 : tie.Need-shared-slice-read-if1-2 Inv-loop μ-loop
-shared-slice-read-if1-2 c = c .before .before .target2 .ensures .0
+shared-slice-read-if1-2 c = c .before .before .goes-to2 .ensures .0
 
 returns : tie.Need-returns Inv-loop μ-loop
 returns c =
@@ -54,9 +54,9 @@ returns c =
     let S = L .before .before .before .before in
     record {
       yes = λ e. absurd (is-false true (sym e) tt);
-      no = λ e h. c .if1 .taken (ap (λ (x : ℕ). getD (S .args .class .now) x 0) (c .before .before .before .before .before .target .ensures .1)
+      no = λ e h. c .if1 .taken (ap (λ (x : ℕ). getD (S .args .class .now) x 0) (c .before .before .before .before .before .goes-to .ensures .1)
           ∙ h (getD (S .args .bytes .now) (L .loop .k) 0) (omega (arith, c .before .before .before .before .before .before .shared-slice-known4 .given (L .loop .k)))
-          ∙ sym (ap (λ (x : ℕ). getD (S .args .class .now) x 0) (c .before .before .before .target2 .ensures .1)));
+          ∙ sym (ap (λ (x : ℕ). getD (S .args .class .now) x 0) (c .before .before .before .goes-to2 .ensures .1)));
     }
 
 add-k : tie.Need-add-k Inv-loop μ-loop
@@ -71,7 +71,7 @@ loop-again c =
     let S = L .before .before .before .before in (
       search needs,
       below-more (λ j. goesTo (S .args .cells .now) (S .args .class .now) (S .args .a) (getD (S .args .bytes .now) j 0) ≡ goesTo (S .args .cells .now) (S .args .class .now) (S .args .b) (getD (S .args .bytes .now) j 0)) (L .loop .k) (L .loop .inv .1)
-          (ap (λ (x : ℕ). getD (S .args .class .now) x 0) (sym (c .before .before .before .before .before .target .ensures .1)) ∙ c .if1 .left ∙ ap (λ (x : ℕ). getD (S .args .class .now) x 0) (c .before .before .before .target2 .ensures .1)),
+          (ap (λ (x : ℕ). getD (S .args .class .now) x 0) (sym (c .before .before .before .before .before .goes-to .ensures .1)) ∙ c .if1 .left ∙ ap (λ (x : ℕ). getD (S .args .class .now) x 0) (c .before .before .before .goes-to2 .ensures .1)),
     )
 
 returns-2 : tie.Need-returns-2 Inv-loop μ-loop
@@ -90,10 +90,10 @@ alike-spec =
     Inv-loop
     μ-loop
     loop-holds
-    shared-slice-read-target
-    target-requires
-    shared-slice-read-target-2
-    target-requires-2
+    shared-slice-read-goes-to
+    goes-to-requires
+    shared-slice-read-goes-to-2
+    goes-to-requires-2
     mul-if1
     shared-slice-read-if1
     mul-if1-2

@@ -2,8 +2,8 @@ use borrow.Author.Needs.{needs}
 use mathlib.Core.Path.{refl}
 use native.Mathlib.Omega.{arith}
 use Rattle.merge.proofs.RoundLaws.{cell-in}
-use Rattle.merge.proofs.grid.target.Statement.{statement}
-use Rattle.merge.proofs.grid.target.Tie as tie
+use Rattle.merge.proofs.grid.goes_to.Statement.{statement}
+use Rattle.merge.proofs.grid.goes_to.Tie as tie
 
 cast-result : tie.Need-cast-result
 cast-result c =
@@ -15,8 +15,8 @@ returns c =
     let S = c .before in
     (cell-in (S .pre .0) (S .args .q) (S .args .b) (omega arith) (omega arith), refl)
 
-pub target-spec : {M : Type 1} → statement M
-target-spec =
+pub goes-to-spec : {M : Type 1} → statement M
+goes-to-spec =
     tie.close
     (tie.spec
     (λ c. search needs)
