@@ -10,9 +10,9 @@ use Rattle.rules.specs.Sizes.{nodesMost}
 use Rattle.rules.specs.Tree.{Tree}
 use Rattle.rules.specs.Nodes.{nodeCount}
 use Rattle.rules.specs.SetRows.{machine}
-use Rattle.reader.specs.Program.{atomBytes, AtomAt}
-use Rattle.nodes.specs.Nodes.{listEdges, HoldNodes}
-use Rattle.nodes.specs.Entries.{Lists}
+use Rattle.program.specs.Program.{atomBytes, AtomAt}
+use Rattle.entries.specs.Nodes.{listEdges, HoldNodes}
+use Rattle.entries.specs.Entries.{Lists}
 use Rattle.nodes.specs.Built.{HoldTree}
 use Rattle.rows.specs.Rows.{NodesOf}
 

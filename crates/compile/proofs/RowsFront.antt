@@ -15,7 +15,8 @@ use Rattle.rules.specs.Compile.{Room, rowsFor}
 use Rattle.rules.proofs.Lists.{getD-map-in, length-map}
 use Rattle.rules.proofs.SetRowsAll.{byte-in, byte-at}
 use Rattle.rules.proofs.CompiledTable.{G, rows-few}
-use Rattle.rows.specs.Rows.{SameRoom, placeOf, RowsIn}
+use Rattle.rows.specs.Rows.{SameRoom, RowsIn}
+use Rattle.cells.specs.Cells.{placeOf}
 use Rattle.merge.specs.Merge.{rowsOf, Lent, Stands}
 use Rattle.merge.proofs.ClassLaws.{rows-length, row-at, cell-at}
 use Rattle.compile.specs.Outcomes.{Front}

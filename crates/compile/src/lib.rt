@@ -2,11 +2,11 @@
 ghost use mathlib.Core.Path.{_≡_};
 ghost use Rattle.rows.specs.Rows.{SomeNodes, room};
 ghost use Rattle.compile.specs.Outcomes.{keptRows, SomeProgram, DrewNodes, DrewProgram, Drew, Compiles};
+use entries::NODES;
 use kinds::Refusal;
 use kinds::Row;
 use merge::merge;
 use nodes::Built;
-use nodes::NODES;
 use nodes::build;
 use reader::PROGRAM_MOST;
 use reader::Reading;

@@ -8,12 +8,12 @@ use native.Mathlib.Omega.{arith}
 use Rattle.rules.specs.Sizes.{nodesMost}
 use Rattle.rules.specs.Nodes.{Kind, empty, onHead, onTail, onBytes, Edge, edge, Frag, size, one, joined, forked, around}
 use Rattle.rules.proofs.Edges.{_∈_}
-use Rattle.reader.specs.Program.{atomBytes, AtomAt}
+use Rattle.program.specs.Program.{atomBytes, AtomAt}
 use Rattle.kinds.specs.declared.Node.{Node}
-use Rattle.nodes.specs.Entries.{Lists, entry, entryAt, edgesOf, Sound, pick, Puts, Links}
+use Rattle.entries.specs.Entries.{Lists, entry, entryAt, edgesOf, Sound, pick, Puts, Links}
 use Rattle.nodes.specs.Fragments.{Drawn, Fits, BuiltAs}
-use Rattle.nodes.specs.declared.entry.Step.{Step}
-use Rattle.nodes.specs.declared.entry.Step.the-variants.{To, TooMany}
+use Rattle.entries.specs.declared.Step.{Step}
+use Rattle.entries.specs.declared.Step.the-variants.{To, TooMany}
 use Rattle.nodes.proofs.DrawnLaws.{drawn-one, drawn-joined, drawn-forked, drawn-around}
 
 -- the two lists have the same nodes before b

@@ -9,8 +9,8 @@ use Rattle.rules.specs.Sizes.{nodesMost}
 use Rattle.rules.specs.Nodes.{empty, Frag, size, one, around, joined, allJoined, frag}
 use Rattle.kinds.specs.declared.Node.{Node}
 use Rattle.nodes.specs.declared.fragment.Copies.{Copies}
-use Rattle.nodes.specs.declared.entry.Step.the-variants.{To}
-use Rattle.nodes.specs.Entries.{Lists, Room, Links}
+use Rattle.entries.specs.declared.Step.the-variants.{To}
+use Rattle.entries.specs.Entries.{Lists, Room, Links}
 use Rattle.nodes.specs.Fragments.{Fits, Part, Builds, copiesOf, copyOf, Fewer}
 use Rattle.nodes.proofs.BuiltLaws.{Rest, rest-more, rest-built}
 

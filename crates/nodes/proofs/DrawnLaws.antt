@@ -9,7 +9,7 @@ use native.Mathlib.Nat.{eq-or-lt-of-le}
 use lib.Dec.{T}
 use Rattle.rules.specs.Nodes.{Kind, empty, Edge, edge, Frag, size, one, joined, forked, only, around}
 use Rattle.rules.proofs.Edges.{_∈_, All, all-one, all-joined, all-forked, all-around}
-use Rattle.nodes.specs.Entries.{Lists, entry, entryAt, edgesOf, pick}
+use Rattle.entries.specs.Entries.{Lists, entry, entryAt, edgesOf, pick}
 use Rattle.nodes.specs.Fragments.{Between, Among, Drawn}
 
 -- ---- what holds of each node from lo on and before hi

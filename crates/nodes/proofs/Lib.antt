@@ -1,4 +1,3 @@
-pub mod EntryLaws
 pub mod DrawnLaws
 pub mod BuiltLaws
 pub mod CopyLaws

@@ -7,15 +7,15 @@ use native.Mathlib.Omega.{arith}
 use lib.ListN.{length}
 use types.Run.{OneOf}
 use denote.Enum.Declared.{tagOf}
-use Rattle.reader.proofs.program.Op.{the-type}
+use Rattle.program.proofs.Op.{the-type}
 use Rattle.rules.specs.Sizes.{nodesMost}
 use Rattle.rules.specs.Tree.{Tree, nothing, bytes, head, tail, inRow, either, repeated}
 use Rattle.rules.specs.Nodes.{empty, onHead, onTail, onBytes, Frag, one, joined, forked, repeatedly, frag}
-use Rattle.reader.specs.Answers.{repeatOf}
-use Rattle.reader.specs.Program.{Pair, Program, operationAt, atomWords, atomBytes, AtomAt}
-use Rattle.reader.specs.declared.program.Op.{Op}
-use Rattle.reader.specs.declared.program.Op.the-variants.{Nothing, Head, Tail, Dot, Class, Byte, InRow, Either, Repeated}
-use Rattle.nodes.specs.Entries.{Lists, Room}
+use Rattle.signs.specs.Answers.{repeatOf}
+use Rattle.program.specs.Program.{Pair, Program, operationAt, atomWords, atomBytes, AtomAt}
+use Rattle.program.specs.declared.Op.{Op}
+use Rattle.program.specs.declared.Op.the-variants.{Nothing, Head, Tail, Dot, Class, Byte, InRow, Either, Repeated}
+use Rattle.entries.specs.Entries.{Lists, Room}
 use Rattle.nodes.specs.Fragments.{Part, Ready}
 
 -- an atom ends at i

@@ -10,9 +10,9 @@ use Rattle.rules.specs.Tree.{Tree}
 use Rattle.rules.specs.Nodes.{Edge, frag, nodeCount}
 use Rattle.rules.specs.SetRows.{machine}
 use Rattle.rules.proofs.Edges.{_∈_}
-use Rattle.nodes.specs.Nodes.{listEdges}
-use Rattle.nodes.specs.Entries.{Lists, entry, entryAt, edgesOf, Sound, Puts}
-use Rattle.nodes.specs.declared.entry.Entry.{Entry}
+use Rattle.entries.specs.Nodes.{listEdges}
+use Rattle.entries.specs.Entries.{Lists, entry, entryAt, edgesOf, Sound, Puts}
+use Rattle.entries.specs.declared.Entry.{Entry}
 use Rattle.nodes.specs.Fragments.{Fits}
 use Rattle.nodes.specs.Built.{HoldTree, BuiltOf}
 use Rattle.nodes.specs.declared.Built.{Built}

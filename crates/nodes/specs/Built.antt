@@ -7,9 +7,9 @@ use Rattle.rules.specs.Sizes.{nodesMost}
 use Rattle.rules.specs.Tree.{Tree}
 use Rattle.rules.specs.Nodes.{nodeCount}
 use Rattle.rules.specs.SetRows.{machine}
-use Rattle.reader.specs.Program.{atomBytes, AtomAt}
-use Rattle.nodes.specs.Nodes.{HoldNodes}
-use Rattle.nodes.specs.Entries.{Lists, Room}
+use Rattle.program.specs.Program.{atomBytes, AtomAt}
+use Rattle.entries.specs.Nodes.{HoldNodes}
+use Rattle.entries.specs.Entries.{Lists, Room}
 use Rattle.nodes.specs.Fragments.{Part}
 use Rattle.nodes.specs.declared.Built.{Built}
 use Rattle.nodes.specs.declared.Built.the-variants.{Nodes, TooMany}

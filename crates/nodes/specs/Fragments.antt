@@ -8,11 +8,11 @@ use Rattle.rules.specs.Tools.{copies}
 use Rattle.rules.specs.Sizes.{nodesMost}
 use Rattle.rules.specs.Tree.{Tree}
 use Rattle.rules.specs.Nodes.{Edge, Frag, size, around, frag}
-use Rattle.reader.specs.Program.{Program}
-use Rattle.nodes.specs.Entries.{Lists, Room, entryAt, edgesOf, Sound}
+use Rattle.program.specs.Program.{Program}
+use Rattle.entries.specs.Entries.{Lists, Room, entryAt, edgesOf, Sound}
 use Rattle.nodes.specs.declared.fragment.Copies.{Copies}
-use Rattle.nodes.specs.declared.entry.Step.{Step}
-use Rattle.nodes.specs.declared.entry.Step.the-variants.{To, TooMany}
+use Rattle.entries.specs.declared.Step.{Step}
+use Rattle.entries.specs.declared.Step.the-variants.{To, TooMany}
 
 -- x is an edge of a node from b on and before e
 abbrev pub Between : List ℕ → Lists → ℕ → ℕ → Edge → Type 0

@@ -1,4 +1,2 @@
-pub mod Nodes
-pub mod Entries
 pub mod Fragments
 pub mod Built

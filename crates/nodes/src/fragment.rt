@@ -4,23 +4,23 @@ ghost use mathlib.Core.Path.{_≡_};
 ghost use Prim.Native.Nat.{_+_, _<_, _≤_};
 ghost use lib.Dec.{eqb};
 ghost use Rattle.rules.specs.Nodes.{joined, forked, around, allJoined, repeatedly};
-ghost use Rattle.reader.specs.Answers.{repeatOf};
-ghost use Rattle.nodes.specs.Entries.{lists, entry, pick};
+ghost use Rattle.signs.specs.Answers.{repeatOf};
+ghost use Rattle.entries.specs.Entries.{lists, entry, pick};
 ghost use Rattle.nodes.specs.Fragments.{Part, Ready, Builds, BuildsBoth, copiesOf, copyOf, Fewer};
-use crate::NODES;
-use crate::entry::BYTES;
-use crate::entry::EMPTY;
-use crate::entry::Entry;
-use crate::entry::HEAD;
-use crate::entry::Step;
-use crate::entry::TAIL;
-use crate::entry::link;
-use crate::entry::next;
-use crate::entry::put;
+use entries::BYTES;
+use entries::EMPTY;
+use entries::Entry;
+use entries::HEAD;
+use entries::NODES;
+use entries::Step;
+use entries::TAIL;
+use entries::link;
+use entries::next;
+use entries::put;
 use kinds::Node;
-use reader::Op;
-use reader::Repeat;
-use reader::operation;
+use program::Op;
+use program::operation;
+use signs::count::Repeat;
 
 // A node with empty edges to a and to b.
 fn empties(a: Node, b: Node) -> Entry

@@ -1,22 +1,14 @@
 // From the reader's program to numbered nodes; refusal 10 where there are too many.
-ghost use Rattle.nodes.specs.Entries.{lists};
+ghost use Rattle.entries.specs.Entries.{lists};
 ghost use Rattle.nodes.specs.Fragments.{Ready};
 ghost use Rattle.nodes.specs.Built.{BuildsTree};
 
-mod entry;
 mod fragment;
 
-pub use entry::BYTES;
-pub use entry::EMPTY;
-use entry::Entry;
-pub use entry::HEAD;
-use entry::Step;
-pub use entry::TAIL;
-use kinds::NODES_MOST;
+use entries::Entry;
+use entries::NODES;
+use entries::Step;
 use kinds::Node;
-
-// The length of each list of nodes.
-pub const NODES: usize = NODES_MOST as usize;
 
 // The number of nodes; or refusal 10.
 pub enum Built {
@@ -40,7 +32,7 @@ pub fn build(
     match fragment::build_part(program, len, kind, to1, to2, atom, Node(0)) {
         Step::TooMany => Built::TooMany,
         Step::To(last) => {
-            entry::put(
+            entries::put(
                 kind,
                 to1,
                 to2,

@@ -1,12 +1,3 @@
-pub mod Tables
-pub mod SignLaws
-pub mod DigitLaws
-pub mod Places
-pub mod CountLaws
-pub mod ByteSetLaws
-pub mod ClassLaws
-pub mod ProgramLaws
 pub mod TokenLaws
 pub mod SaysLaws
-pub mod ProgramKeeps
 pub mod ReadingLaws

@@ -14,7 +14,7 @@ use Rattle.rules.specs.Turned.{Before, noAtom, anAtom, aRepeat, NotAtom, Reach,
 use Rattle.rules.specs.Reader.{token}
 use Rattle.rules.proofs.TokensRead.{stands-iff, stands-shorter}
 use Rattle.reader.specs.Says.{Answer, tree, refused, atom, piece, branch, pattern, pieces, branches, stops, isRepeat, Closes, inGroup, atEnd, Past, Ready, RowRead, Right, Says}
-use Rattle.reader.proofs.Places.{here}
+use Rattle.signs.proofs.Places.{here}
 use Rattle.reader.proofs.TokenLaws.{token-end}
 
 standing : (s : List ℕ) {t : Token} → token s ≡ t → Stands s t

@@ -18,11 +18,11 @@ use Rattle.rules.specs.Signs.{plain, dot, opensClass, closesClass, opensGroup, 
 use Rattle.rules.specs.Tree.{Repeat, bytes}
 use Rattle.rules.specs.Grammar.{Token, single, closes, ends, noCount, noClass, noEscape, stray}
 use Rattle.rules.specs.Reader.{class, escape, count, setOr, byteOr, repeatsOr, tokenOf, token}
-use Rattle.reader.specs.Signs.{signOf}
+use Rattle.signs.specs.Signs.{signOf}
 use Rattle.reader.specs.Says.{stops, isRepeat}
-use Rattle.reader.specs.declared.sign.Sign.{Sign}
-use Rattle.reader.proofs.Places.{here, at-end}
-use Rattle.reader.proofs.SignLaws.{tag, numberOf, number-tag, sign-at}
+use Rattle.signs.specs.declared.sign.Sign.{Sign}
+use Rattle.signs.proofs.Places.{here, at-end}
+use Rattle.signs.proofs.SignLaws.{tag, numberOf, number-tag, sign-at}
 
 -- ---- the token at a place
 

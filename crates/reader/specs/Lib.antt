@@ -1,9 +1,3 @@
-pub mod Signs
-pub mod Answers
-pub mod Counts
-pub mod ByteSets
-pub mod Program
-pub mod Classes
 pub mod Says
 pub mod Told
 pub mod Reading

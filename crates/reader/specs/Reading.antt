@@ -11,7 +11,7 @@ use Rattle.rules.specs.Reader as rules
 use Rattle.rules.specs.Reader.{got, bad, read}
 use Rattle.rules.specs.Answers.{refusal, Answer, refused, given}
 use Rattle.kinds.specs.Refusals.{refusalOf}
-use Rattle.reader.specs.Program.{Program}
+use Rattle.program.specs.Program.{Program}
 use Rattle.reader.specs.declared.Reading.{Reading}
 use Rattle.reader.specs.declared.Reading.the-variants as reading
 

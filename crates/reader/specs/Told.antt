@@ -9,11 +9,11 @@ use Rattle.rules.specs.Signs.{opensGroup, sign}
 use Rattle.rules.specs.Tree.{Tree}
 use Rattle.rules.specs.Grammar.{repeats, noCount}
 use Rattle.rules.specs.Reader.{token}
-use Rattle.reader.specs.Signs.{signOf}
-use Rattle.reader.specs.Answers.{repeatOf}
-use Rattle.reader.specs.Program.{Program}
+use Rattle.signs.specs.Signs.{signOf}
+use Rattle.signs.specs.Answers.{repeatOf}
+use Rattle.program.specs.Program.{Program}
 use Rattle.reader.specs.Says.{tree, refused, Mode, atom, piece, branch, pattern, pieces, branches, isRepeat, Says}
-use Rattle.reader.specs.declared.sign.Sign.{Sign}
+use Rattle.signs.specs.declared.sign.Sign.{Sign}
 use Rattle.reader.specs.declared.tree.Got.{Got}
 use Rattle.reader.specs.declared.tree.Got.the-variants as got
 use Rattle.reader.specs.declared.tree.After.{After}

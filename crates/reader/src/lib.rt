@@ -1,21 +1,10 @@
 // Reading a pattern: its tree as a program, or refusal 1 to 9 with its place.
 ghost use Rattle.reader.specs.Reading.{ReadAs};
 
-mod byte_set;
-mod class;
-mod count;
-mod escape;
-mod program;
-mod sign;
 mod tree;
 
-pub use byte_set::ByteSet;
-pub use count::Repeat;
 use kinds::PATTERN_MOST;
 use kinds::Refusal;
-pub use program::Op;
-pub use program::atom_set;
-pub use program::operation;
 use tree::Got;
 
 // The longest program: at most two words for each byte of a pattern, and one.

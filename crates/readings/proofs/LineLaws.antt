@@ -9,8 +9,8 @@ use borrow.Author.Tests.{le-leb, ne-eqb}
 use lib.ListN.{length, getD, take, drop, set, length-drop, drop-of-length-le}
 use lib.Seq.{take-suc-set}
 use Rattle.rules.specs.Signs.{within}
-use Rattle.reader.proofs.DigitLaws.{within-both}
-use Rattle.reader.proofs.Places.{here, two-here}
+use Rattle.rules.proofs.Tests.{within-both}
+use Rattle.signs.proofs.Places.{here, two-here}
 use Rattle.readings.specs.Lines.{hexValue, patternOf, Written, Unwritten}
 
 -- ---- digits

@@ -14,12 +14,12 @@ use Rattle.rules.specs.SetRows.{onByte, machine}
 use Rattle.rules.proofs.Edges.{_∈_}
 use Rattle.rules.proofs.TidyNodes.{neat}
 use Rattle.rules.proofs.Taken.{Leaves}
-use Rattle.reader.specs.Program.{atomBytes}
-use Rattle.nodes.specs.Nodes.{nodeEdges, listEdges}
-use Rattle.rows.specs.Runs.{Crosses, Runs}
+use Rattle.program.specs.Program.{atomBytes}
+use Rattle.entries.specs.Nodes.{nodeEdges, listEdges}
+use Rattle.runs.specs.Runs.{Crosses, Runs}
 use Rattle.rows.specs.Rows.{NodesOf}
-use Rattle.rows.specs.Listing.{Masked, MasksUnder}
-use Rattle.rows.proofs.Ways.{flat-in, flat-of, node-all, node-from}
+use Rattle.cells.specs.Cells.{Masked, MasksUnder}
+use Rattle.closing.proofs.Ways.{flat-in, flat-of, node-all, node-from}
 
 module _ {program : List ℕ} {X : Tree} {kind to1 to2 atom : List ℕ} (N : NodesOf program X kind to1 to2 atom) where
   -- the bytes and the edges of node u

@@ -1,14 +1,4 @@
-pub mod WordLaws
-pub mod Ways
-pub mod Sweeps
-pub mod SameClosing
-pub mod Parts
-pub mod Parting
-pub mod Masks
 pub mod Leaving
-pub mod Buckets
-pub mod Listing
-pub mod RowLaws
-pub mod Filling
+pub mod SameClosing
 pub mod Listable
 pub mod RowByRow

@@ -10,7 +10,7 @@ use Rattle.rules.specs.SetRows.{machine, rowCount}
 use Rattle.rules.specs.Compile.{rowsFor}
 use Rattle.rules.proofs.RowsRight.{nodes-below}
 use Rattle.rules.proofs.SetRowsAll.{first-rows}
-use Rattle.rows.specs.Runs.{Runs}
+use Rattle.runs.specs.Runs.{Runs}
 use Rattle.rows.specs.Rows.{NodesOf, SomeNodes, room as lent}
 use Rattle.rows.specs.Listing.{Given, TreeOf, RoomFor}
 use Rattle.rows.proofs.Leaving.{leaving, masks-under}

@@ -15,15 +15,17 @@ use Rattle.rules.specs.Tree.{Tree}
 use Rattle.rules.specs.SetRows.{SetRow, machine, row-at, setRows, rowCount, markOf}
 use Rattle.rules.specs.Compile.{Room, rowsFor}
 use Rattle.rules.proofs.SetRowsAll.{first-rows}
-use Rattle.rows.specs.Words.{maskOf}
-use Rattle.rows.specs.Closing.{crossing, ways, Full}
-use Rattle.rows.specs.Known.{buckets, Book}
-use Rattle.rows.specs.Rows.{room as lent, placeOf, RowsIn}
-use Rattle.rows.specs.Listing.{takenAt, seedsOf, nodesOf, markBy, AtRow, FilledTo, Given, TreeOf, RoomFor, ListedTo}
-use Rattle.rows.proofs.Parts.{put-below, put-at}
-use Rattle.rows.proofs.Sweeps.{closing-full, closing-lt}
-use Rattle.rows.proofs.RowLaws.{next-lt, seeds-lt}
-use Rattle.rows.proofs.Listing.{going-next, going-end}
+use Rattle.sets.specs.NodeSets.{maskOf}
+use Rattle.closing.specs.Closing.{crossing, ways, Full, markBy}
+use Rattle.cells.specs.Known.{buckets, Book}
+use Rattle.rows.specs.Rows.{room as lent, RowsIn}
+use Rattle.cells.specs.Cells.{placeOf, takenAt, seedsOf, nodesOf, AtRow, FilledTo}
+use Rattle.rows.specs.Listing.{Given, TreeOf, RoomFor, ListedTo}
+use Rattle.sets.proofs.Parts.{put-below, put-at}
+use Rattle.closing.proofs.Sweeps.{closing-full, closing-lt}
+use Rattle.sets.proofs.NodeSetLaws.{next-lt}
+use Rattle.cells.proofs.RowLaws.{seeds-lt}
+use Rattle.cells.proofs.InOrder.{going-next, going-end}
 use Rattle.rows.proofs.SameClosing.{row-same, mark-same}
 
 -- ---- a row's nodes

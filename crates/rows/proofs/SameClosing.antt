@@ -17,12 +17,12 @@ use Rattle.rules.proofs.RowsRight.{nodes-below}
 use Rattle.rules.proofs.SetRowsAll.{first-rows}
 use Rattle.rules.proofs.TidyNodes.{neat}
 use Rattle.rules.proofs.Taken.{next-taken}
-use Rattle.nodes.specs.Nodes.{nodeEdges, listEdges, HoldNodes}
-use Rattle.rows.specs.Closing.{crossing, ways, Nodes, closing}
-use Rattle.rows.specs.Listing.{Reached, Going, seedsOf, nodesOf, markBy}
-use Rattle.rows.proofs.Ways.{flat-in, flat-of, node-all, cross-bytes}
-use Rattle.rows.proofs.Sweeps.{closing-keeps, closing-ind, closing-full, closing-lt}
-use Rattle.rows.proofs.RowLaws.{seeds-later}
+use Rattle.entries.specs.Nodes.{nodeEdges, listEdges, HoldNodes}
+use Rattle.closing.specs.Closing.{crossing, ways, Nodes, closing, markBy}
+use Rattle.cells.specs.Cells.{Reached, Going, seedsOf, nodesOf}
+use Rattle.closing.proofs.Ways.{flat-in, flat-of, node-all, cross-bytes}
+use Rattle.closing.proofs.Sweeps.{closing-keeps, closing-ind, closing-full, closing-lt}
+use Rattle.cells.proofs.RowLaws.{seeds-later}
 
 -- ---- edges
 

@@ -3,13 +3,13 @@ use mathlib.Core.Path.{_≡_}
 use mathlib.Core.List.{List}
 use Prim.Native.Nat.{ℕ, _+_, _*_, _≤_, _<_}
 use lib.ListN.{length, getD}
-use Rattle.rules.specs.Tools.{place}
 use Rattle.rules.specs.Tree.{Tree}
-use Rattle.rules.specs.SetRows.{Machine, machine, sameRow, next, row-at, setRows, rowCount, markOf}
+use Rattle.rules.specs.SetRows.{Machine, machine, row-at, setRows, rowCount, markOf}
 use Rattle.rules.specs.Compile.{Room, rowsFor}
-use Rattle.reader.specs.Program.{atomBytes}
-use Rattle.nodes.specs.Nodes.{HoldNodes}
-use Rattle.rows.specs.Runs.{Atoms}
+use Rattle.program.specs.Program.{atomBytes}
+use Rattle.entries.specs.Nodes.{HoldNodes}
+use Rattle.runs.specs.Runs.{Atoms}
+use Rattle.cells.specs.Cells.{placeOf}
 use Rattle.rows.specs.declared.Listed.{Listed}
 use Rattle.rows.specs.declared.Listed.the-variants as listed
 
@@ -32,10 +32,6 @@ pub record SameRoom (old new : Room) : Type 0 where
   pub cells : length (new .cells) ≡ length (old .cells)
   pub marks : length (new .marks) ≡ length (old .marks)
   pub sets : length (new .sets) ≡ length (old .sets)
-
--- the place in the list of the row to which row p goes on byte b
-abbrev pub placeOf : Machine → ℕ → ℕ → ℕ
-placeOf w p b = place (sameRow (next w (row-at (setRows w) p) b)) (setRows w)
 
 -- cells and marks of the n set rows stand at the front of the room
 pub record RowsIn (w : Machine) (old new : Room) (n : ℕ) : Type 0 where

@@ -5,24 +5,17 @@ ghost use lib.ListN.{length};
 ghost use Rattle.rules.specs.Compile.{rowsFor};
 ghost use Rattle.rows.specs.Rows.{SomeNodes, Lists};
 ghost use Rattle.rows.specs.Rows as lent;
-ghost use Rattle.rows.specs.Listing.{Tails, Given, RoomFor, ListedTo, RowListed, AllListed};
-
-mod cells;
-mod closing;
-mod known;
-mod marks;
-mod runs;
-mod words;
-
+ghost use Rattle.closing.specs.Closing.{Tails};
+ghost use Rattle.rows.specs.Listing.{Given, RoomFor, ListedTo, RowListed, AllListed};
 use cells::Filled;
 use cells::fill;
+use cells::known::BUCKETS;
 use cells::take_up;
+use closing::marks::mark_of;
+use closing::marks::put_tails;
 use kinds::Node;
 use kinds::ROWS_MOST;
 use kinds::WORDS_A_ROW;
-use known::BUCKETS;
-use marks::mark_of;
-use marks::put_tails;
 use runs::make_runs;
 
 // The number of set rows; or refusal 11.

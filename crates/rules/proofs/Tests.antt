@@ -2,9 +2,10 @@
 use mathlib.Core.Path.{_≡_, refl, sym, subst}
 use mathlib.Core.Logic.{_↔_}
 use mathlib.Core.Bool.{Bool, true, false, _&&_}
-use Prim.Native.Nat.{ℕ, _<_}
+use Prim.Native.Nat.{ℕ, _≤_, _<_}
 use borrow.Author.Tests.{eq-eqb}
-use lib.Dec.{T, eqb, ltb, ltb→lt, lt→ltb}
+use lib.Dec.{T, eqb, leb, ltb, leb→le, ltb→lt, lt→ltb}
+use Rattle.rules.specs.Signs.{within}
 
 pub is-true : (b : Bool) → b ≡ true → T b
 is-true b e = subst (λ (x : Bool). T x) (sym e) tt
@@ -41,3 +42,7 @@ both-ways false false h = refl
 pub by-test : (b : Bool) (C : Bool → Type 0) → (T b → C true) → ((T b → ⊥) → C false) → C b
 by-test true C f g = f tt
 by-test false C f g = g (λ h. h)
+
+-- a number within bounds
+pub within-both : (lo hi c : ℕ) → within lo hi c ≡ true → (lo ≤ c) × (c ≤ hi)
+within-both lo hi c e = let h = is-true (within lo hi c) e in (leb→le lo c (both-left (leb lo c) (leb c hi) h), leb→le c hi (both-right (leb lo c) (leb c hi) h))

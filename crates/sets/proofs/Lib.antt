@@ -1,1 +1,4 @@
 pub mod SetLaws
+pub mod ByteSetLaws
+pub mod Parts
+pub mod NodeSetLaws

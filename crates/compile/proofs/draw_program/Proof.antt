@@ -1,6 +1,6 @@
 -- `draw_program`: the nodes are too many, or stand at the front of the lists.
 use borrow.Author.Needs.{needs}
-use Rattle.nodes.specs.Entries.{Lists, lists}
+use Rattle.entries.specs.Entries.{Lists, lists}
 use Rattle.nodes.specs.Fragments.{Part}
 use Rattle.nodes.specs.Built.{HoldTree}
 use Rattle.compile.proofs.FirstNodes.{Fronts, fronts, first-nodes}

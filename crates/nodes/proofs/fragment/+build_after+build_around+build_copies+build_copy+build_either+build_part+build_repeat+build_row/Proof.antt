@@ -7,7 +7,7 @@ use borrow.Author.Needs.{needs}
 use borrow.Author.Tests.{eqb-true, eqb-false}
 use native.Mathlib.Omega.{arith}
 use Rattle.rules.specs.Nodes.{Frag, joined, frag}
-use Rattle.nodes.specs.Entries.{lists}
+use Rattle.entries.specs.Entries.{lists}
 use Rattle.nodes.proofs.PartLaws.{nonempty, again, shaped, leaf-shaped}
 use Rattle.nodes.proofs.BuiltLaws.{empty-built, head-built, tail-built, bytes-built, forked-built, around-built, rest-all, rest-more, rest-built}
 use Rattle.nodes.proofs.CopyLaws.{Copying, no-copies, plain-copy, extra-copy, copying-more, copying-last, copying-over, copying-full}
@@ -37,14 +37,14 @@ use Rattle.nodes.proofs.fragment.+build_after+build_around+build_copies
 use Rattle.nodes.proofs.fragment.build_row.Reads as build-row
 use Rattle.nodes.proofs.fragment.build_row.Kinds as build-row-kinds
 use Rattle.nodes.proofs.fragment.+build_after+build_around+build_copies+build_copy+build_either+build_part+build_repeat+build_row.Lts-build_row as build-row-lts
-use Rattle.nodes.proofs.entry.link.Reads as link-reads
-use Rattle.nodes.proofs.entry.next.Reads as next-reads
-use Rattle.nodes.proofs.entry.put.Reads as put-reads
+use Rattle.entries.proofs.link.Reads as link-reads
+use Rattle.entries.proofs.next.Reads as next-reads
+use Rattle.entries.proofs.put.Reads as put-reads
 use Rattle.nodes.proofs.fragment.Copies.none.Reads as none-reads
 use Rattle.nodes.proofs.fragment.Copies.rest.Reads as rest-reads
 use Rattle.nodes.proofs.fragment.empties.Reads as empties-reads
 use Rattle.nodes.proofs.fragment.picked.Reads as picked-reads
-use Rattle.reader.proofs.operation.Reads as operation-reads
+use Rattle.program.proofs.operation.Reads as operation-reads
 use Rattle.nodes.proofs.fragment.+build_after+build_around+build_copies+build_copy+build_either+build_part+build_repeat+build_row.{statement}
 use Rattle.nodes.proofs.fragment.+build_after+build_around+build_copies+build_copy+build_either+build_part+build_repeat+build_row.Tie.{close}
 

@@ -2,22 +2,21 @@
 -- a reading loop that began at at₀ after the tree X₀ has come to `at`, with the program of its tree from `start` up to n
 use mathlib.Core.Path.{_≡_, refl, sym, ap, _∙_}
 use mathlib.Core.List.{List, [], _∷_}
-use Prim.Native.Nat.{_+_, _*_, _-_, _≤_, _<_}
+use Prim.Native.Nat.{_+_, _*_, _-_, _≤_, _<_, ℕ}
 use borrow.Author.Needs.{needs}
 use native.Mathlib.Omega.{arith}
 use lib.ListN.{length, take}
 use Rattle.rules.specs.Signs.{opensGroup, bar}
 use Rattle.rules.specs.Tree.{Tree, nothing, inRow, either, repeated}
-use Rattle.reader.specs.Signs.{signOf}
-use Rattle.reader.specs.Answers.{repeatOf}
-use Rattle.reader.specs.Program.{Program}
+use Rattle.signs.specs.Signs.{signOf}
+use Rattle.signs.specs.Answers.{repeatOf}
+use Rattle.program.specs.Program.{Program}
 use Rattle.reader.specs.Says.{Answer, Mode, pieces, branches, Says}
-use Rattle.reader.specs.declared.program.Op.the-variants.{InRow, Either}
-use Rattle.reader.proofs.SignLaws.{not-sign}
+use Rattle.program.specs.declared.Op.the-variants.{InRow, Either}
+use Rattle.signs.proofs.SignLaws.{not-sign}
 use Rattle.reader.proofs.TokenLaws.{token-end, token-of, on-within, close-here}
-use Rattle.reader.proofs.ProgramKeeps.{wrote-one, wrote-sign, wrote-pair, kept-below}
+use Rattle.program.proofs.ProgramKeeps.{wrote-one, wrote-sign, wrote-pair, kept-below}
 use Rattle.reader.proofs.SaysLaws.{atom-deep, group-refused, group-unclosed, group-closed, piece-refused, piece-once, piece-signed, piece-brace, branch-empty, branch-refused, branch-on, pieces-stop, pieces-refused, pieces-on, pattern-refused, pattern-on, branches-end, branches-out, branches-stray, branches-refused, branches-on}
-use Prim.Native.Nat.{ℕ}
 use borrow.Fn.Kinds.{In}
 use borrow.Fn.PlainCycle.{Measures, is, falls, and}
 use Rattle.reader.proofs.tree.read_atom.Reads as read-atom
@@ -32,8 +31,8 @@ use Rattle.reader.proofs.tree.+read_atom+read_branch+read_branches+read
 use Rattle.reader.proofs.tree.read_piece.Reads as read-piece
 use Rattle.reader.proofs.tree.read_piece.Kinds as read-piece-kinds
 use Rattle.reader.proofs.tree.+read_atom+read_branch+read_branches+read_piece.Lts-read_piece as read-piece-lts
-use Rattle.reader.proofs.program.put.Reads as put-reads
-use Rattle.reader.proofs.sign.sign_of.Reads as sign-of-reads
+use Rattle.program.proofs.put.Reads as put-reads
+use Rattle.signs.proofs.sign.sign_of.Reads as sign-of-reads
 use Rattle.reader.proofs.tree.after_atom.Reads as after-atom-reads
 use Rattle.reader.proofs.tree.one.Reads as one-reads
 use Rattle.reader.proofs.tree.read_single.Reads as read-single-reads

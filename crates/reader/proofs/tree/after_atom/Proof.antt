@@ -8,10 +8,10 @@ use Rattle.rules.specs.Signs.{starSign, plusSign, querySign, opensCount}
 use Rattle.rules.specs.Tree.{Repeat}
 use Rattle.rules.specs.Grammar.{noCount}
 use Rattle.rules.specs.Reader.{repeatsOr}
-use Rattle.reader.specs.Signs.{signOf}
-use Rattle.reader.specs.Answers.{countOf}
+use Rattle.signs.specs.Signs.{signOf}
+use Rattle.signs.specs.Answers.{countOf}
 use Rattle.reader.specs.Says.{isRepeat}
-use Rattle.reader.proofs.Places.{read-some, read-none}
+use Rattle.signs.proofs.Places.{read-some, read-none}
 use Rattle.reader.proofs.TokenLaws.{token-end, token-of, no-repeat}
 use borrow.Author.Needs.{needs}
 use Rattle.reader.proofs.tree.after_atom.Statement.{statement}

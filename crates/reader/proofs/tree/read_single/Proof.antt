@@ -9,13 +9,13 @@ use Rattle.rules.specs.Signs.{dot, hat, dollar, opensClass, backslash, dotBytes
 use Rattle.rules.specs.Tree.{bytes, head, tail}
 use Rattle.rules.specs.Grammar.{noClass, noEscape}
 use Rattle.rules.specs.Reader.{setOr, byteOr}
-use Rattle.reader.specs.Signs.{signOf}
-use Rattle.reader.specs.Answers.{byteOf}
-use Rattle.reader.specs.ByteSets.{bytesOf}
-use Rattle.reader.specs.Classes.{classOf}
-use Rattle.reader.proofs.Places.{read-some, read-none}
+use Rattle.signs.specs.Signs.{signOf}
+use Rattle.signs.specs.Answers.{byteOf}
+use Rattle.sets.specs.ByteSets.{bytesOf}
+use Rattle.classes.specs.Classes.{classOf}
+use Rattle.signs.proofs.Places.{read-some, read-none}
 use Rattle.reader.proofs.TokenLaws.{token-of, repeat-here, stray-here, plain-here}
-use Rattle.reader.proofs.ProgramKeeps.{wrote-one, wrote-byte, wrote-dot, wrote-class}
+use Rattle.program.proofs.ProgramKeeps.{wrote-one, wrote-byte, wrote-dot, wrote-class}
 use Rattle.reader.proofs.SaysLaws.{atom-single, atom-repeat, atom-class, atom-escape, atom-stray}
 use borrow.Author.Needs.{needs}
 use Rattle.reader.proofs.tree.read_single.Statement.{statement}

@@ -1,0 +1,4 @@
+pub mod Buckets
+pub mod RowLaws
+pub mod InOrder
+pub mod Filling

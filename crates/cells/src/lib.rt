@@ -1,0 +1,138 @@
+// A row's nodes, and its cells.
+ghost use mathlib.Core.Path.{_≡_};
+ghost use Prim.Native.Nat.{_+_, _*_, _^_, _≤_, _<_};
+ghost use lib.ListN.{length, getD, replicate};
+ghost use Rattle.rules.specs.Sizes.{wordsARow};
+ghost use Rattle.sets.specs.NodeSets.{maskOf, rowWords, meets};
+ghost use Rattle.closing.specs.Closing.{Nodes, Wide};
+ghost use Rattle.cells.specs.Known.{Book, Took};
+ghost use Rattle.runs.specs.Runs.{Starts};
+ghost use Rattle.cells.specs.Cells.{takenAt, seedsOf, nodesOf, putRun, FilledAs};
+
+pub mod known;
+
+use crate::known::Got;
+use crate::known::take_in;
+use closing::close;
+use kinds::Node;
+use kinds::Row;
+use kinds::WORDS_A_ROW;
+use sets::node_set::copy;
+use sets::node_set::meet;
+use sets::node_set::nodes_after;
+use sets::node_set::put_in;
+
+// How many rows there are after a row is filled; or that there is no room for another.
+pub enum Filled {
+    Rows(usize),
+    Full,
+}
+
+// What row q is closed from: the start node, or the nodes after those from which an edge was taken.
+fn begin(set: &mut [u64], sets: &[u64], q: usize)
+    requires { ⌜ (0 < length (now set)) × ((length (now set) ≤ wordsARow) × ((2 ≤ q → wordsARow * q + wordsARow ≤ length (now sets)) × (2 ≤ q → takenAt (length (now set)) (now sets) q * 2 < 2 ^ (64 * length (now set))))) ⌝ }
+    ensures { λ _. ⌜ (length (now (set .exit)) ≡ length (now (set .entry))) × (maskOf (now (set .exit)) ≡ seedsOf (takenAt (length (now (set .entry))) (now (sets .entry))) q) ⌝ }
+{
+    if q < 2 {
+        sets::clear(set);
+        put_in(set, Node(0));
+        return;
+    }
+    let at = WORDS_A_ROW * q;
+    nodes_after(set, &sets[at..at + set.len()]);
+}
+
+// The nodes of row q.
+pub fn take_up(
+    set: &mut [u64],
+    pending: &mut [u64],
+    sets: &[u64],
+    q: usize,
+    kind: &[u8],
+    to1: &[u16],
+    to2: &[u16],
+)
+    requires { ⌜ Nodes (now kind) (now to1) (now to2) × (Wide (length (now kind)) (now set) × ((length (now pending) ≡ length (now set)) × ((0 < length (now kind)) × ((2 ≤ q → wordsARow * q + wordsARow ≤ length (now sets)) × (2 ≤ q → takenAt (length (now set)) (now sets) q * 2 < 2 ^ length (now kind)))))) ⌝ }
+    ensures { λ _. ⌜ (length (now (set .exit)) ≡ length (now (set .entry))) × ((length (now (pending .exit)) ≡ length (now (set .entry))) × (maskOf (now (set .exit)) ≡ nodesOf (now (kind .entry)) (now (to1 .entry)) (now (to2 .entry)) (takenAt (length (now (set .entry))) (now (sets .entry))) q)) ⌝ }
+{
+    begin(set, sets, q);
+    copy(pending, set);
+    close(set, pending, kind, to1, to2, q == 1, false);
+}
+
+// Every cell becomes row r.
+fn spread(cells: &mut [u16], r: Row)
+    ensures { λ _. ⌜ now (cells .exit) ≡ replicate (length (now (cells .entry))) (r .0) ⌝ }
+{
+    let x = r.0;
+    let mut i: usize = 0;
+    while i < cells.len() {
+        cells[i] = x;
+        i += 1;
+    }
+}
+
+// The row to which the nodes of the set go on the bytes of run k.
+fn take_run(
+    taken: &mut [u64],
+    set: &[u64],
+    masks: &[u64],
+    k: usize,
+    sets: &mut [u64],
+    heads: &mut [u16],
+    nexts: &mut [u16],
+    rows: usize,
+    room: usize,
+) -> Got
+    requires { ⌜ (length (now taken) ≡ length (now set)) × ((length (now set) ≤ wordsARow) × ((wordsARow * k + wordsARow ≤ length (now masks)) × Book (length (now set)) room (now sets) (now heads) (now nexts) rows)) ⌝ }
+    ensures { λ r. ⌜ Took (length (now (set .entry))) room (now (sets .entry)) rows (meets (now (set .entry)) (rowWords (length (now (set .entry))) (now (masks .entry)) k)) (now (sets .exit)) (now (heads .exit)) (now (nexts .exit)) r ⌝ }
+{
+    let at = WORDS_A_ROW * k;
+    meet(taken, set, &masks[at..at + set.len()]);
+    take_in(sets, heads, nexts, rows, room, taken)
+}
+
+// The cells of run k become row r.
+fn spread_run(row: &mut [u16], starts: &[u16], runs: usize, k: usize, r: Row)
+    requires { ⌜ (length (now row) ≡ 256) × (Starts (now starts) runs × (k < runs)) ⌝ }
+    ensures { λ _. ⌜ now (row .exit) ≡ putRun (now (row .entry)) (getD (now (starts .entry)) k 0) (getD (now (starts .entry)) (k + 1) 0) (r .0) ⌝ }
+{
+    let from = starts[k] as usize;
+    let to = starts[k + 1] as usize;
+    spread(&mut row[from..to], r);
+}
+
+// A row's own 256 cells: where its nodes go on each run of bytes.
+pub fn fill(
+    row: &mut [u16],
+    set: &[u64],
+    starts: &[u16],
+    masks: &[u64],
+    runs: usize,
+    sets: &mut [u64],
+    heads: &mut [u16],
+    nexts: &mut [u16],
+    rows: usize,
+    room: usize,
+) -> Filled
+    requires { ⌜ (length (now row) ≡ 256) × ((length (now set) ≤ wordsARow) × (Starts (now starts) runs × ((wordsARow * runs ≤ length (now masks)) × Book (length (now set)) room (now sets) (now heads) (now nexts) rows))) ⌝ }
+    ensures { λ r. ⌜ FilledAs room (now (set .entry)) (now (starts .entry)) (now (masks .entry)) runs (now (sets .entry)) rows (now (sets .exit)) (now (heads .exit)) (now (nexts .exit)) (now (row .exit)) r ⌝ }
+{
+    let w = set.len();
+    let mut taken = [0u64; WORDS_A_ROW];
+    let mut c = rows;
+    let mut k: usize = 0;
+    while k < runs {
+        match take_run(&mut taken[..w], set, masks, k, sets, heads, nexts, c, room) {
+            Got::Over => {
+                return Filled::Full;
+            }
+            Got::In(r, d) => {
+                spread_run(row, starts, runs, k, r);
+                c = d;
+            }
+        }
+        k += 1;
+    }
+    Filled::Rows(c)
+}

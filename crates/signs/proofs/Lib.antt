@@ -1,0 +1,5 @@
+pub mod Tables
+pub mod SignLaws
+pub mod DigitLaws
+pub mod Places
+pub mod CountLaws
