@@ -17,7 +17,8 @@ use Rattle.kinds.specs.declared.Row.{Row}
 use Rattle.reader.specs.Reading.{answer, ProgramOf}
 use Rattle.rows.specs.Rows.{SomeNodes, SameRoom, Lists}
 use Rattle.rows.specs.declared.Listed.the-variants as listed
-use Rattle.merge.specs.Merge.{rowsOf, Lent, Stands}
+use Rattle.parting.specs.Room.{rowsOf}
+use Rattle.merge.specs.Merge.{Lent, Stands}
 use Rattle.compile.specs.Outcomes.{DrewAs, DrewNodes, SomeProgram, DrewProgram, Drew}
 use Rattle.compile.specs.declared.Compiled.{Compiled}
 use Rattle.compile.specs.declared.Compiled.the-variants.{Table as table, Refused}

@@ -6,12 +6,13 @@ ghost use Rattle.kinds.specs.Refusals.{refusalOf};
 ghost use Rattle.rules.specs.Matchers.{wholeAnswer, longestAnswer, firstAnswer, startsAnswer};
 ghost use Rattle.table.specs.Lent.{tableOf};
 ghost use Rattle.table.specs.Answers.{wholeOf, longestOf};
-ghost use Rattle.finders.specs.Answers.{firstOf, startsOf};
+ghost use Rattle.first.specs.Answers.{firstOf};
+ghost use Rattle.starts.specs.Answers.{startsOf};
 ghost use Rattle.jorvimest.specs.Codes.{wholeCode, longestCode, longestEnd, firstCode, firstStart, firstEnd, startsCode, startsCount};
-use finders::answers::First;
-use finders::answers::Starts;
+use first::answers::First;
 use kinds::Refusal;
 use kinds::Row;
+use starts::answers::Starts;
 use table::answers::Longest;
 use table::answers::Whole;
 
@@ -171,7 +172,7 @@ pub extern "C" fn jorvimest_first(
     ensures start { λ r. ⌜ now (start .exit) ≡ firstStart (now (start .entry)) (firstAnswer (tableOf rows head (now (marks .entry)) (now (cells .entry))) (now (text .entry))) ⌝ }
     ensures end { λ r. ⌜ now (end .exit) ≡ firstEnd (now (end .entry)) (firstAnswer (tableOf rows head (now (marks .entry)) (now (cells .entry))) (now (text .entry))) ⌝ }
 {
-    let answer = finders::first(rows, Row(head), cells, marks, text);
+    let answer = first::first(rows, Row(head), cells, marks, text);
     *start = first_start(answer, *start);
     *end = first_end(answer, *end);
     first_code(answer)
@@ -192,7 +193,7 @@ pub extern "C" fn jorvimest_starts(
     ensures count { λ r. ⌜ now (count .exit) ≡ startsCount (now (count .entry)) (startsAnswer (tableOf rows head (now (marks .entry)) (now (cells .entry))) (now (text .entry)) (now (list .entry)) .answer) ⌝ }
     ensures list { λ r. ⌜ now (list .exit) ≡ startsAnswer (tableOf rows head (now (marks .entry)) (now (cells .entry))) (now (text .entry)) (now (list .entry)) .list ⌝ }
 {
-    let answer = finders::starts(rows, Row(head), cells, marks, text, list);
+    let answer = starts::starts(rows, Row(head), cells, marks, text, list);
     *count = starts_count(answer, *count);
     starts_code(answer)
 }

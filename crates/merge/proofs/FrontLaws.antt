@@ -9,9 +9,10 @@ use Rattle.rules.specs.Sizes.{rowsMost}
 use Rattle.rules.specs.Grid.{Grid}
 use Rattle.rules.specs.Compiled.{merged}
 use Rattle.rules.proofs.MergedTable.{merged-exact}
-use Rattle.merge.specs.Dirty.{rowWords}
-use Rattle.merge.specs.Merge.{rowsOf, Room, Stands}
-use Rattle.merge.proofs.ClassLaws.{rows-length, row-at}
+use Rattle.parting.specs.Dirty.{rowWords}
+use Rattle.parting.specs.Room.{rowsOf, Room}
+use Rattle.parting.proofs.ClassLaws.{rows-length, row-at}
+use Rattle.merge.specs.Merge.{Stands}
 
 -- the front of a local array of zeros
 pub zeros-front : (n : ℕ) → n ≤ rowsMost → length {A = ℕ} (take n (replicate rowsMost 0)) ≡ n

@@ -1,9 +1,3 @@
-pub mod ListLaws
-pub mod ColumnLaws
-pub mod MarkLaws
-pub mod RoundLaws
-pub mod DirtyLaws
-pub mod ClassLaws
 pub mod NumberLaws
 pub mod StandLaws
 pub mod FrontLaws

@@ -1,7 +1,4 @@
 -- what merging is lent and what it leaves
 pub mod Merge
 -- what its steps are given and leave
-pub mod Columns
-pub mod Rounds
-pub mod Dirty
 pub mod Numbers

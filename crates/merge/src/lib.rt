@@ -3,20 +3,14 @@ ghost use mathlib.Core.Path.{_≡_};
 ghost use lib.ListN.{length, take};
 ghost use Rattle.rules.specs.Grid.{Grid};
 ghost use Rattle.rules.specs.Compiled.{merged};
-ghost use Rattle.merge.specs.Merge.{rowsOf, Lent, Room, Stands};
-use grid::ROW_WORDS;
-use grid::ROWS;
+ghost use Rattle.parting.specs.Room.{rowsOf, Room};
+ghost use Rattle.merge.specs.Merge.{Lent, Stands};
 use kinds::Row;
+use round::grid::ROW_WORDS;
+use round::grid::ROWS;
 
-mod classes;
-mod columns;
-mod dirty;
-mod grid;
 mod lower;
-mod marks;
 mod numbers;
-mod preds;
-mod rounds;
 
 // The rows of the merged table, and its head row.
 pub struct Merged {
@@ -37,7 +31,7 @@ fn merge_all(
     requires { ⌜ Grid (rowsOf (now cells) (length (now marks))) (now marks) × Room (now cells) (now preds) (now class) (now next) (now parted) (now dirty) (length (now marks)) ⌝ }
     ensures { λ r. ⌜ Stands (merged (rowsOf (now (cells .entry)) (length (now (marks .entry)))) (now (marks .entry))) (now (cells .exit)) (now (marks .exit)) (r .rows) (r .head .0) ⌝ }
 {
-    classes::name(cells, marks, preds, class, next, parted, dirty);
+    parting::name(cells, marks, preds, class, next, parted, dirty);
     let rows = numbers::give(class, next);
     lower::move_down(cells, marks, class, next);
     let head = Row(next[1]);

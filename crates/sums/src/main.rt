@@ -7,13 +7,13 @@ ghost use lib.ListN.{length};
 ghost use Rattle.io.specs.Counts.{Counts};
 ghost use Rattle.sums.specs.Lent.{Lent};
 use compile::Compiled;
-use finders::answers::First;
-use finders::answers::Starts;
+use first::answers::First;
 use kinds::Refusal;
 use kinds::Row;
 use kinds::WORDS_A_ROW;
 use libc::STDIN_FILENO;
 use libc::STDOUT_FILENO;
+use starts::answers::Starts;
 use writing::Text;
 
 // Rows for which there is room.
@@ -70,7 +70,7 @@ fn number_of(digits: &[u8]) -> usize
 }
 
 fn say_first(rows: u16, head: Row, cells: &[u16], marks: &[u8], text: &[u8]) {
-    match finders::first(rows, head, cells, marks, text) {
+    match first::first(rows, head, cells, marks, text) {
         First::Refused(r) => say_refusal(r),
         First::Nothing => say(b" no match"),
         First::Match(start, end) => {
@@ -95,7 +95,7 @@ fn say_list(list: &[u32], count: u32) {
 
 fn say_starts(rows: u16, head: Row, cells: &[u16], marks: &[u8], text: &[u8]) {
     let mut list = [0u32; PLACES];
-    match finders::starts(rows, head, cells, marks, text, &mut list) {
+    match starts::starts(rows, head, cells, marks, text, &mut list) {
         Starts::Refused(r) => say_refusal(r),
         Starts::Count(n) => {
             say(b" starts");

@@ -3,7 +3,7 @@ use mathlib.Core.Path.{sym}
 use Prim.Native.Nat.{_*_}
 use native.Mathlib.Omega.{arith}
 use lib.Seq.{length-take-le, length-front}
-use Rattle.merge.specs.Dirty.{rowWords}
+use Rattle.parting.specs.Dirty.{rowWords}
 use Rattle.merge.proofs.FrontLaws.{zeros-front, front-grid, front-room, front-stands}
 use Rattle.merge.proofs.merge.Statement.{statement}
 use Rattle.merge.proofs.merge.Tie as tie

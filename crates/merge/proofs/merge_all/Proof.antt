@@ -1,7 +1,7 @@
 use mathlib.Core.Path.{sym, refl, _∙_}
 use native.Mathlib.Omega.{arith}
 use lib.ListN.{length}
-use Rattle.merge.proofs.ClassLaws.{rows-in}
+use Rattle.parting.proofs.ClassLaws.{rows-in}
 use Rattle.merge.proofs.StandLaws.{two-rows, class-long, class-names, table-stands}
 use Rattle.merge.proofs.merge_all.Statement.{statement}
 use Rattle.merge.proofs.merge_all.Tie as tie

@@ -1,0 +1,2 @@
+pub mod AheadLaws
+pub mod PlaceLaws

@@ -1,9 +1,0 @@
-pub mod AheadLaws
-pub mod StartsLaws
-pub mod BackLaws
-pub mod ListLaws
-pub mod KeptLaws
-pub mod RunLaws
-pub mod TriesLaws
-pub mod AnswerLaws
-pub mod FindersOnce

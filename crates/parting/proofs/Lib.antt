@@ -1,0 +1,2 @@
+pub mod DirtyLaws
+pub mod ClassLaws

@@ -1,0 +1,35 @@
+// The rows that lead to each row, as sets of rows end to end: row i leads to row t if ROWS * t + i is in.
+ghost use mathlib.Core.Path.{_≡_};
+ghost use Prim.Native.Nat.{ℕ, _*_, _<_};
+ghost use lib.ListN.{length};
+ghost use Rattle.round.specs.Rounds.{Rows};
+ghost use Rattle.parting.specs.Dirty.{rowWords, Grown, RowListed};
+use round::grid::ROWS;
+use round::grid::goes_to;
+use sets;
+
+// Puts row i down at each of its targets.
+fn list_row(cells: &[u16], bytes: &[u8], n: usize, preds: &mut [u64], i: usize)
+    requires { ⌜ Rows (now cells) n × ((i < n) × (length (now preds) ≡ rowWords * n)) ⌝ }
+    ensures { λ _. ⌜ Grown (now (preds .entry)) (now (preds .exit)) × RowListed (now (cells .entry)) (now (bytes .entry)) (now (preds .exit)) i ⌝ }
+{
+    let mut k: usize = 0;
+    while k < bytes.len() {
+        let t = goes_to(cells, n, i, bytes[k]);
+        sets::put(preds, ROWS * t + i);
+        k += 1;
+    }
+}
+
+// Puts each of n rows down at each of its targets.
+pub fn list(cells: &[u16], bytes: &[u8], n: usize, preds: &mut [u64])
+    requires { ⌜ Rows (now cells) n × (length (now preds) ≡ rowWords * n) ⌝ }
+    ensures { λ _. ⌜ ((i : ℕ) → i < n → RowListed (now (cells .entry)) (now (bytes .entry)) (now (preds .exit)) i) ⌝ }
+{
+    sets::clear(preds);
+    let mut i: usize = 0;
+    while i < n {
+        list_row(cells, bytes, n, preds, i);
+        i += 1;
+    }
+}

@@ -1,0 +1,3 @@
+-- what a round is given and leaves
+pub mod Columns
+pub mod Rounds

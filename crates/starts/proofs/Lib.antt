@@ -1,0 +1,3 @@
+pub mod StartsLaws
+pub mod BackLaws
+pub mod StartsOnce
