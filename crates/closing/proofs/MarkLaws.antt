@@ -14,9 +14,10 @@ use Rattle.rules.proofs.Tests.{both, by-test}
 use Rattle.rules.proofs.Edges.{_∈_}
 use Rattle.entries.specs.Nodes.{nodeEdges}
 use Rattle.sets.specs.NodeSets.{maskOf, meets}
-use Rattle.closing.specs.Closing.{crossing, ways, closing, Full, FullBut, markBy, Tails}
+use Rattle.rules.specs.SetRows.{crosses}
+use Rattle.closing.specs.Closing.{ways, closing, Full, FullBut, markBy, Tails}
 use Rattle.sets.proofs.NodeSetLaws.{meets-has}
-use Rattle.closing.proofs.Ways.{node-all, way-of, way-low, cross-empty, cross-head, cross-bytes}
+use Rattle.closing.proofs.Ways.{node-all, way-of, way-low}
 
 module _ (head : Bool) (kind to1 to2 : List ℕ) (m last : ℕ) where
   abbrev later : Bool
@@ -37,13 +38,13 @@ module _ (head : Bool) (kind to1 to2 : List ℕ) (m last : ℕ) where
       (λ g. by-test later (λ b. _≡_ {A = ℕ} 0 (elim b [ true ↦ 2 | false ↦ 0 ])) (λ h. absurd (k h)) (λ g. refl))
 
 -- what is crossed at the text's end only: edges that leave a node of kind 3
-tail-only : (h : Bool) (a b u k : ℕ) (x : Edge) → x ∈ nodeEdges k a b 0 u → T (crossing h true (x .on)) → T (crossing h false (x .on)) ⊎ (k ≡ 3)
-tail-only h a b u = node-all a b 0 u (λ k x. T (crossing h true (x .on)) → T (crossing h false (x .on)) ⊎ (k ≡ 3)) (λ c. inl (cross-empty h false)) (λ c. inl (cross-empty h false))
-    (λ c. inl (rw (cross-head h false) (rw (cross-head h true) at c))) (λ c. inr refl) (λ c. absurd (cross-bytes h true 0 c))
+tail-only : (h : Bool) (a b u k : ℕ) (x : Edge) → x ∈ nodeEdges k a b 0 u → T (crosses h true (x .on)) → T (crosses h false (x .on)) ⊎ (k ≡ 3)
+tail-only h a b u = node-all a b 0 u (λ k x. T (crosses h true (x .on)) → T (crosses h false (x .on)) ⊎ (k ≡ 3)) (λ c. inl tt) (λ c. inl tt)
+    (λ c. inl c) (λ c. inr refl) (λ c. absurd c)
 
 -- a closed set, at the text's end: only nodes that a tail edge leaves lead on
-pub full-but-tails : (h : Bool) (kind to1 to2 set tails : List ℕ) → Tails kind tails → Full (crossing h false) (ways kind to1 to2) (maskOf set)
-    → FullBut (λ v. T (has (maskOf (meets set tails)) v)) (crossing h true) (ways kind to1 to2) (maskOf set)
+pub full-but-tails : (h : Bool) (kind to1 to2 set tails : List ℕ) → Tails kind tails → Full (crosses h false) (ways kind to1 to2) (maskOf set)
+    → FullBut (λ v. T (has (maskOf (meets set tails)) v)) (crosses h true) (ways kind to1 to2) (maskOf set)
 full-but-tails h kind to1 to2 set tails T₃ F x m c f = ⊎-elim (λ g. inr (F x m g f))
     (λ k. inl (subst T (sym (meets-has set tails (x .from))) (both (has (maskOf set) (x .from)) (has (maskOf tails) (x .from)) f (T₃ (x .from) (way-low kind to1 to2 x m) k))))
     (tail-only h (getD to1 (x .from) 0) (getD to2 (x .from) 0) (x .from) (getD kind (x .from) 0) x (way-of kind to1 to2 x m) c)

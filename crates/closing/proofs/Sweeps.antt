@@ -13,13 +13,13 @@ use lib.ListN.{length, getD}
 use lib.Pow.{pow-mono, pow-pos}
 use Rattle.rules.specs.Tools.{has, with}
 use Rattle.rules.specs.Nodes.{Kind, Edge}
-use Rattle.rules.specs.SetRows.{Machine}
+use Rattle.rules.specs.SetRows.{crosses, Machine}
 use Rattle.rules.proofs.Edges.{_∈_, All}
 use Rattle.rules.proofs.Sets.{has-bit, zero-has, with-has, with-keeps, with-only, with-ge, with-lt}
 use Rattle.rules.proofs.Closing.{Carries, closed-keeps, closed-ind, closed-lt, closed-full, closed-only}
 use Rattle.sets.specs.Sets.{member}
 use Rattle.sets.specs.NodeSets.{maskOf, TakenOut}
-use Rattle.closing.specs.Closing.{crossing, ways, Nodes, closing, Added, Full, FullBut, Sweep, Onward, left, Advanced}
+use Rattle.closing.specs.Closing.{ways, Nodes, closing, Added, Full, FullBut, Sweep, Onward, left, Advanced}
 use Rattle.sets.proofs.NodeSetLaws.{mask-has, with-new}
 use Rattle.closing.proofs.Ways.{Leads, Bare}
 
@@ -128,7 +128,7 @@ OrNode p v x = T (has p x) ⊎ (x ≡ v)
 
 -- node u, with no targets, is taken up
 pub onward-stop : {h t : Bool} {kind to1 to2 : List ℕ} {u m p i : ℕ} → Bare h t kind to1 to2 u
-    → Onward (crossing h t) (ways kind to1 to2) (length kind) (OrNode p u) m p i (λ v. T (has p v)) m p i
+    → Onward (crosses h t) (ways kind to1 to2) (length kind) (OrNode p u) m p i (λ v. T (has p v)) m p i
 onward-stop {u = u} stop = record {
   small = λ s. s;
   small-too = λ s. s;
@@ -141,13 +141,13 @@ onward-stop {u = u} stop = record {
 -- node u, with targets a and b
 module _ {h t : Bool} {kind to1 to2 : List ℕ} {u a b : ℕ} (N : Nodes kind to1 to2) (L : Leads h t kind to1 to2 u a b) where
   -- where u is in full, so are its targets
-  to-full : (full : ℕ) → Full (crossing h t) (ways kind to1 to2) full → T (has full u) → T (has full a) × T (has full b)
+  to-full : (full : ℕ) → Full (crosses h t) (ways kind to1 to2) full → T (has full u) → T (has full a) × T (has full b)
   to-full full f hu = (to (L .one), to (L .two))
     where
-      to : {v : ℕ} → (x : Edge) × (x ∈ ways kind to1 to2) × (x .from ≡ u) × T (crossing h t (x .on)) × (x .to ≡ v) → T (has full v)
+      to : {v : ℕ} → (x : Edge) × (x ∈ ways kind to1 to2) × (x .from ≡ u) × T (crosses h t (x .on)) × (x .to ≡ v) → T (has full v)
       to g = subst (λ (y : ℕ). T (has full y)) (g .4) (f (g .0) (g .1) (g .3) (rw (g .2) hu))
 
-  done : (m : ℕ) → T (has m a) → T (has m b) → (x : Edge) → x ∈ ways kind to1 to2 → x .from ≡ u → T (crossing h t (x .on)) → T (has m (x .to))
+  done : (m : ℕ) → T (has m a) → T (has m b) → (x : Edge) → x ∈ ways kind to1 to2 → x .from ≡ u → T (crosses h t (x .on)) → T (has m (x .to))
   done m ha hb x e g k = ⊎-elim (λ q. rw q ha) (λ q. rw q hb) (L .only x e g k)
 
   pub one-low : a < length kind
@@ -158,7 +158,7 @@ module _ {h t : Bool} {kind to1 to2 : List ℕ} {u a b : ℕ} (N : Nodes kind to
 
   -- the first target is in already
   pub onward-last : {m p i m′ p′ i′ : ℕ} → T (has m a) → Added m p i b m′ p′ i′
-      → Onward (crossing h t) (ways kind to1 to2) (length kind) (OrNode p u) m p i (λ v. T (has p′ v)) m′ p′ i′
+      → Onward (crosses h t) (ways kind to1 to2) (length kind) (OrNode p u) m p i (λ v. T (has p′ v)) m′ p′ i′
   onward-last {m} {p} {i} {m′} {p′} {i′} ha A = record {
     small = K .small;
     small-too = K .small-too;
@@ -173,7 +173,7 @@ module _ {h t : Bool} {kind to1 to2 : List ℕ} {u a b : ℕ} (N : Nodes kind to
 
   -- the first target is new, and is taken up next
   pub onward-on : {m m₁ p i m′ p′ i′ : ℕ} → (T (has m a) → ⊥) → m₁ ≡ with m a → Added m₁ p i b m′ p′ i′
-      → (m < m′) × Onward (crossing h t) (ways kind to1 to2) (length kind) (OrNode p u) m p i (OrNode p′ a) m′ p′ i′
+      → (m < m′) × Onward (crosses h t) (ways kind to1 to2) (length kind) (OrNode p u) m p i (OrNode p′ a) m′ p′ i′
   onward-on {m} {m₁} {p} {i} {m′} {p′} {i′} na put A₁ = (
     more,
     record {
@@ -207,8 +207,8 @@ module _ {h t : Bool} {kind to1 to2 : List ℕ} {u a b : ℕ} (N : Nodes kind to
       together x (inr (inl g)) k = rw g (with-has m a)
       together x (inr (inr g)) k = with-keeps m a x (k (inr g))
 
-      turn : {seeds full : ℕ} → Sweep (crossing h t) (ways kind to1 to2) seeds full (λ x. T (has p′ x) ⊎ ((x ≡ a) ⊎ (x ≡ u))) m′ p′ i′
-          → Sweep (crossing h t) (ways kind to1 to2) seeds full (λ x. OrNode p′ a x ⊎ (x ≡ u)) m′ p′ i′
+      turn : {seeds full : ℕ} → Sweep (crosses h t) (ways kind to1 to2) seeds full (λ x. T (has p′ x) ⊎ ((x ≡ a) ⊎ (x ≡ u))) m′ p′ i′
+          → Sweep (crosses h t) (ways kind to1 to2) seeds full (λ x. OrNode p′ a x ⊎ (x ≡ u)) m′ p′ i′
       turn s = sweep-as (λ x w. ⊎-elim (λ g. inl (inl g)) (λ w. ⊎-elim (λ g. inl (inr g)) inr w) w)
           (λ x w. s .among x (⊎-elim (λ w. ⊎-elim inl (λ g. inr (inl g)) w) (λ g. inr (inr g)) w)) s
 
@@ -288,27 +288,27 @@ module _ (h t : Bool) (kind to1 to2 : List ℕ) (N : Nodes kind to1 to2) (seeds 
 
   pub closing-keeps : (v : ℕ) → T (has seeds v) → T (has (closing h t kind to1 to2 seeds) v)
   unfolding closing
-  closing-keeps = closed-keeps w (crossing h t) seeds
+  closing-keeps = closed-keeps w (crosses h t) seeds
 
-  pub closing-ind : (C : ℕ → Type 0) → All (Carries (crossing h t) C) (ways kind to1 to2) → ((v : ℕ) → T (has seeds v) → C v) → (v : ℕ) → T (has (closing h t kind to1 to2 seeds) v) → C v
+  pub closing-ind : (C : ℕ → Type 0) → All (Carries (crosses h t) C) (ways kind to1 to2) → ((v : ℕ) → T (has seeds v) → C v) → (v : ℕ) → T (has (closing h t kind to1 to2 seeds) v) → C v
   unfolding closing
-  closing-ind = closed-ind w (crossing h t) seeds
+  closing-ind = closed-ind w (crosses h t) seeds
 
-  pub closing-full : Full (crossing h t) (ways kind to1 to2) (closing h t kind to1 to2 seeds)
+  pub closing-full : Full (crosses h t) (ways kind to1 to2) (closing h t kind to1 to2 seeds)
   unfolding closing
-  closing-full = closed-full w (N .below) (crossing h t) seeds small
+  closing-full = closed-full w (N .below) (crosses h t) seeds small
 
   pub closing-lt : closing h t kind to1 to2 seeds < 2 ^ length kind
   unfolding closing
-  closing-lt = closed-lt w (N .below) (crossing h t) seeds small
+  closing-lt = closed-lt w (N .below) (crosses h t) seeds small
 
-  pub sweep-start : {p : ℕ} → ((v : ℕ) → T (has p v) → T (has seeds v)) → FullBut (λ v. T (has p v)) (crossing h t) (ways kind to1 to2) seeds
-      → Sweep (crossing h t) (ways kind to1 to2) seeds (closing h t kind to1 to2 seeds) (λ v. T (has p v)) seeds p 0
+  pub sweep-start : {p : ℕ} → ((v : ℕ) → T (has p v) → T (has seeds v)) → FullBut (λ v. T (has p v)) (crosses h t) (ways kind to1 to2) seeds
+      → Sweep (crosses h t) (ways kind to1 to2) seeds (closing h t kind to1 to2 seeds) (λ v. T (has p v)) seeds p 0
   sweep-start among leads = record { holds = λ v g. g; within = closing-keeps; leads = leads; among = among; past = λ v g. omega arith }
 
   pub sweep-end : {m p i : ℕ} (words : ℕ) → length kind ≤ 64 * words → words ≤ i → m < 2 ^ length kind → p < 2 ^ length kind
-      → Sweep (crossing h t) (ways kind to1 to2) seeds (closing h t kind to1 to2 seeds) (λ v. T (has p v)) m p i → m ≡ closing h t kind to1 to2 seeds
+      → Sweep (crosses h t) (ways kind to1 to2) seeds (closing h t kind to1 to2 seeds) (λ v. T (has p v)) m p i → m ≡ closing h t kind to1 to2 seeds
   unfolding closing
-  sweep-end {m} {p} words long past lm lp s = closed-only w (N .below) (crossing h t) seeds small m lm (s .holds)
+  sweep-end {m} {p} words long past lm lp s = closed-only w (N .below) (crosses h t) seeds small m lm (s .holds)
       (λ x e k f. ⊎-elim (λ g. absurd (omega (arith, has-lt (length kind) p (x .from) lp g, s .past (x .from) g))) (λ g. g) (s .leads x e k f))
       (λ C carries base v g. closing-ind C carries base v (s .within v g))

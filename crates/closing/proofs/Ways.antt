@@ -14,7 +14,8 @@ use Rattle.rules.specs.Tools.{upFrom, flat, find}
 use Rattle.rules.specs.Nodes.{Kind, empty, onHead, onTail, onBytes, Edge, edge}
 use Rattle.rules.proofs.Edges.{_∈_}
 use Rattle.entries.specs.Nodes.{nodeEdges, listEdges}
-use Rattle.closing.specs.Closing.{crossing, ways, targetsOf}
+use Rattle.rules.specs.SetRows.{crosses}
+use Rattle.closing.specs.Closing.{ways, targetsOf}
 use Rattle.kinds.specs.declared.Node.{Node}
 use Rattle.closing.specs.declared.Targets.{Targets}
 use Rattle.closing.specs.declared.Targets.the-variants.{Two, Nothing}
@@ -72,30 +73,6 @@ module _ (a b B u : ℕ) where
 
 -- ---- what is crossed
 
-pub cross-empty : (h t : Bool) → T (crossing h t empty)
-cross-empty true true = tt
-cross-empty true false = tt
-cross-empty false true = tt
-cross-empty false false = tt
-
-pub cross-head : (h t : Bool) → crossing h t onHead ≡ h
-cross-head true true = refl
-cross-head true false = refl
-cross-head false true = refl
-cross-head false false = refl
-
-pub cross-tail : (h t : Bool) → crossing h t onTail ≡ t
-cross-tail true true = refl
-cross-tail true false = refl
-cross-tail false true = refl
-cross-tail false false = refl
-
-pub cross-bytes : (h t : Bool) (B : ℕ) → T (crossing h t (onBytes B)) → ⊥
-cross-bytes true true B c = c
-cross-bytes true false B c = c
-cross-bytes false true B c = c
-cross-bytes false false B c = c
-
 -- c crosses an edge of es to v
 abbrev Goes : (Kind → Bool) → List Edge → ℕ → Type 0
 Goes c es v = (x : Edge) × (x ∈ es) × T (c (x .on)) × (x .to ≡ v)
@@ -106,24 +83,24 @@ LeadsTo c es (Two a b) = Goes c es (a .0) × Goes c es (b .0) × ((x : Edge) →
 LeadsTo c es Nothing = (x : Edge) → x ∈ es → T (c (x .on)) → ⊥
 
 module _ (h t : Bool) (a b u : ℕ) where
-  one-way : (k : Kind) → T (crossing h t k) → LeadsTo (crossing h t) (edge u k (suc u) ∷ []) (Two (record { 0 = u + 1 }) (record { 0 = u + 1 }))
+  one-way : (k : Kind) → T (crosses h t k) → LeadsTo (crosses h t) (edge u k (suc u) ∷ []) (Two (record { 0 = u + 1 }) (record { 0 = u + 1 }))
   one-way k c = (way, way, only)
     where
       up : suc u ≡ u + 1
       up = sym (add-one u)
 
-      way : Goes (crossing h t) (edge u k (suc u) ∷ []) (u + 1)
+      way : Goes (crosses h t) (edge u k (suc u) ∷ []) (u + 1)
       way = (edge u k (suc u), first refl, c, up)
 
-      only : (x : Edge) → x ∈ (edge u k (suc u) ∷ []) → T (crossing h t (x .on)) → (x .to ≡ u + 1) ⊎ (x .to ≡ u + 1)
+      only : (x : Edge) → x ∈ (edge u k (suc u) ∷ []) → T (crosses h t (x .on)) → (x .to ≡ u + 1) ⊎ (x .to ≡ u + 1)
       only x (first e) g = inl (ap (λ (y : Edge). y .to) e ∙ up)
       only x (later e) g = absurd (List·Memᴰ·not-nil e)
 
-  no-way : (k : Kind) → (T (crossing h t k) → ⊥) → LeadsTo (crossing h t) (edge u k (suc u) ∷ []) Nothing
-  no-way k n x (first e) g = n (subst (λ (y : Edge). T (crossing h t (y .on))) e g)
+  no-way : (k : Kind) → (T (crosses h t k) → ⊥) → LeadsTo (crosses h t) (edge u k (suc u) ∷ []) Nothing
+  no-way k n x (first e) g = n (subst (λ (y : Edge). T (crosses h t (y .on))) e g)
   no-way k n x (later e) g = List·Memᴰ·not-nil e
 
-  anchor : (k : Kind) (s : Bool) → crossing h t k ≡ s → LeadsTo (crossing h t) (edge u k (suc u) ∷ []) (elim s [ true ↦ Two (record { 0 = u + 1 }) (record { 0 = u + 1 }) | false ↦ Nothing ])
+  anchor : (k : Kind) (s : Bool) → crosses h t k ≡ s → LeadsTo (crosses h t) (edge u k (suc u) ∷ []) (elim s [ true ↦ Two (record { 0 = u + 1 }) (record { 0 = u + 1 }) | false ↦ Nothing ])
   anchor k true e = one-way k (rw e tt)
   anchor k false e = no-way k (λ g. rw e at g)
 
@@ -131,14 +108,14 @@ module _ (h t : Bool) (a b u : ℕ) where
   unfolding targetsOf
   other-targets k n₁ n₂ n₃ = rw (find, ne-eqb k 1 n₁, ne-eqb k 2 n₂, ne-eqb k 3 n₃)
 
-  node-leads : (k : ℕ) → LeadsTo (crossing h t) (nodeEdges k a b 0 u) (targetsOf h t k a b u)
+  node-leads : (k : ℕ) → LeadsTo (crosses h t) (nodeEdges k a b 0 u) (targetsOf h t k a b u)
   unfolding targetsOf
-  node-leads = by-kind (λ k. LeadsTo (crossing h t) (nodeEdges k a b 0 u) (targetsOf h t k a b u))
-      ((edge u empty a, first refl, cross-empty h t, refl), (edge u empty b, later (first refl), cross-empty h t, refl), empties)
-      (anchor onHead h (cross-head h t)) (anchor onTail t (cross-tail h t)) (no-way (onBytes 0) (cross-bytes h t 0))
+  node-leads = by-kind (λ k. LeadsTo (crosses h t) (nodeEdges k a b 0 u) (targetsOf h t k a b u))
+      ((edge u empty a, first refl, tt, refl), (edge u empty b, later (first refl), tt, refl), empties)
+      (anchor onHead h refl) (anchor onTail t refl) (no-way (onBytes 0) (λ c. c))
       (λ k n₁ n₂ n₃ n₄. rw (other-edges a b 0 u k n₁ n₂ n₃ n₄, other-targets k n₁ n₂ n₃) (λ x e g. List·Memᴰ·not-nil e))
     where
-      empties : (x : Edge) → x ∈ (edge u empty a ∷ edge u empty b ∷ []) → T (crossing h t (x .on)) → (x .to ≡ a) ⊎ (x .to ≡ b)
+      empties : (x : Edge) → x ∈ (edge u empty a ∷ edge u empty b ∷ []) → T (crosses h t (x .on)) → (x .to ≡ a) ⊎ (x .to ≡ b)
       empties x (first e) g = inl (ap (λ (y : Edge). y .to) e)
       empties x (later (first e)) g = inr (ap (λ (y : Edge). y .to) e)
       empties x (later (later e)) g = absurd (List·Memᴰ·not-nil e)
@@ -166,31 +143,31 @@ module _ (kind to1 to2 : List ℕ) where
 
 -- an edge from u to v is crossed
 abbrev From : Bool → Bool → List ℕ → List ℕ → List ℕ → ℕ → ℕ → Type 0
-From h t kind to1 to2 u v = (x : Edge) × (x ∈ ways kind to1 to2) × (x .from ≡ u) × T (crossing h t (x .on)) × (x .to ≡ v)
+From h t kind to1 to2 u v = (x : Edge) × (x ∈ ways kind to1 to2) × (x .from ≡ u) × T (crosses h t (x .on)) × (x .to ≡ v)
 
 -- a and b are the targets of the edges from u that are crossed
 pub record Leads (h t : Bool) (kind to1 to2 : List ℕ) (u a b : ℕ) : Type 0 where
   pub one : From h t kind to1 to2 u a
   pub two : From h t kind to1 to2 u b
-  pub only : (x : Edge) → x ∈ ways kind to1 to2 → x .from ≡ u → T (crossing h t (x .on)) → (x .to ≡ a) ⊎ (x .to ≡ b)
+  pub only : (x : Edge) → x ∈ ways kind to1 to2 → x .from ≡ u → T (crosses h t (x .on)) → (x .to ≡ a) ⊎ (x .to ≡ b)
 
 -- no edge from u is crossed
 pub record Bare (h t : Bool) (kind to1 to2 : List ℕ) (u : ℕ) : Type 0 where
-  pub none : (x : Edge) → x ∈ ways kind to1 to2 → x .from ≡ u → T (crossing h t (x .on)) → ⊥
+  pub none : (x : Edge) → x ∈ ways kind to1 to2 → x .from ≡ u → T (crosses h t (x .on)) → ⊥
 
 module _ (h t : Bool) (kind to1 to2 : List ℕ) (u : ℕ) (l : u < length kind) where
   here : (x : Edge) → x ∈ ways kind to1 to2 → x .from ≡ u → x ∈ atNode kind to1 to2 u
   here x m f = subst (λ (y : ℕ). x ∈ atNode kind to1 to2 y) f (way-of kind to1 to2 x m)
 
-  from : (v : ℕ) → Goes (crossing h t) (atNode kind to1 to2 u) v → From h t kind to1 to2 u v
+  from : (v : ℕ) → Goes (crosses h t) (atNode kind to1 to2 u) v → From h t kind to1 to2 u v
   from v g = (g .0, way-in kind to1 to2 u (g .0) l (g .1), node-from (getD to1 u 0) (getD to2 u 0) 0 u (getD kind u 0) (g .0) (g .1), g .2, g .3)
 
-  leads : (r : Targets) → r ≡ targetsOf h t (getD kind u 0) (getD to1 u 0) (getD to2 u 0) u → LeadsTo (crossing h t) (atNode kind to1 to2 u) r
+  leads : (r : Targets) → r ≡ targetsOf h t (getD kind u 0) (getD to1 u 0) (getD to2 u 0) u → LeadsTo (crosses h t) (atNode kind to1 to2 u) r
   leads r e = rw e (node-leads h t (getD to1 u 0) (getD to2 u 0) u (getD kind u 0))
 
 module _ {h t : Bool} {kind to1 to2 : List ℕ} {u : ℕ} (l : u < length kind) where
   pub leads-two : {a b : Node} → Two a b ≡ targetsOf h t (getD kind u 0) (getD to1 u 0) (getD to2 u 0) u → Leads h t kind to1 to2 u (a .0) (b .0)
-  leads-two {a} {b} e = let g : LeadsTo (crossing h t) (atNode kind to1 to2 u) (Two a b) = leads h t kind to1 to2 u l (Two a b) e in
+  leads-two {a} {b} e = let g : LeadsTo (crosses h t) (atNode kind to1 to2 u) (Two a b) = leads h t kind to1 to2 u l (Two a b) e in
       record { one = from h t kind to1 to2 u l (a .0) (g .0); two = from h t kind to1 to2 u l (b .0) (g .1); only = λ x m f c. g .2 x (here h t kind to1 to2 u l x m f) c }
 
   pub leads-nowhere : Nothing ≡ targetsOf h t (getD kind u 0) (getD to1 u 0) (getD to2 u 0) u → Bare h t kind to1 to2 u

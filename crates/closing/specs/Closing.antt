@@ -10,17 +10,10 @@ use Rattle.rules.specs.Tools.{has, with, find}
 use Rattle.sets.specs.NodeSets.{maskOf}
 use Rattle.rules.specs.Sizes.{nodesMost, wordsARow}
 use Rattle.rules.specs.Nodes.{Kind, Edge}
-use Rattle.rules.specs.SetRows.{onEmpty, orHead, orTail, orEither, closed}
+use Rattle.rules.specs.SetRows.{crosses, closed}
 use Rattle.entries.specs.Nodes.{listEdges}
 use Rattle.closing.specs.declared.Targets.{Targets}
 use Rattle.closing.specs.declared.Targets.the-variants.{Two, Nothing}
-
--- which edges are crossed: empty ones, and head and tail edges where so said
-abbrev pub crossing : Bool → Bool → Kind → Bool
-crossing true true = orEither
-crossing true false = orHead
-crossing false true = orTail
-crossing false false = onEmpty
 
 -- the edges of the nodes in the lists; no byte is on those that are on bytes
 unfoldable pub ways : List ℕ → List ℕ → List ℕ → List Edge
@@ -40,7 +33,7 @@ pub record Wide (n : ℕ) (set : List ℕ) : Type 0 where
 
 -- m closed, where n is the number of nodes
 unfoldable pub closing : Bool → Bool → List ℕ → List ℕ → List ℕ → ℕ → ℕ
-closing head tail kind to1 to2 m = closed (crossing head tail) (ways kind to1 to2) (2 ^ length kind) m
+closing head tail kind to1 to2 m = closed (crosses head tail) (ways kind to1 to2) (2 ^ length kind) m
 
 -- the targets of the edges that node u has by its kind
 unfoldable pub targetsOf : Bool → Bool → ℕ → ℕ → ℕ → ℕ → Targets

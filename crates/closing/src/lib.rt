@@ -6,7 +6,8 @@ ghost use lib.Dec.{T};
 ghost use lib.ListN.{length, getD};
 ghost use Rattle.rules.specs.Tools.{has};
 ghost use Rattle.sets.specs.NodeSets.{maskOf};
-ghost use Rattle.closing.specs.Closing.{crossing, ways, Nodes, Wide, closing, targetsOf, Added, FullBut, Onward, Advanced};
+ghost use Rattle.rules.specs.SetRows.{crosses};
+ghost use Rattle.closing.specs.Closing.{ways, Nodes, Wide, closing, targetsOf, Added, FullBut, Onward, Advanced};
 
 pub mod marks;
 
@@ -78,7 +79,7 @@ fn follow(
     at: usize,
 ) -> usize
     requires { ⌜ Nodes (now kind) (now to1) (now to2) × (Wide (length (now kind)) (now set) × ((length (now pending) ≡ length (now set)) × ((from .0 < length (now kind)) × (maskOf (now set) < 2 ^ length (now kind))))) ⌝ }
-    ensures { λ r. ⌜ (length (now (set .exit)) ≡ length (now (set .entry))) × ((length (now (pending .exit)) ≡ length (now (set .entry))) × Onward (crossing head tail) (ways (now (kind .entry)) (now (to1 .entry)) (now (to2 .entry))) (length (now (kind .entry))) (λ v. T (has (maskOf (now (pending .entry))) v) ⊎ (v ≡ from .0)) (maskOf (now (set .entry))) (maskOf (now (pending .entry))) at (λ v. T (has (maskOf (now (pending .exit))) v)) (maskOf (now (set .exit))) (maskOf (now (pending .exit))) r) ⌝ }
+    ensures { λ r. ⌜ (length (now (set .exit)) ≡ length (now (set .entry))) × ((length (now (pending .exit)) ≡ length (now (set .entry))) × Onward (crosses head tail) (ways (now (kind .entry)) (now (to1 .entry)) (now (to2 .entry))) (length (now (kind .entry))) (λ v. T (has (maskOf (now (pending .entry))) v) ⊎ (v ≡ from .0)) (maskOf (now (set .entry))) (maskOf (now (pending .entry))) at (λ v. T (has (maskOf (now (pending .exit))) v)) (maskOf (now (set .exit))) (maskOf (now (pending .exit))) r) ⌝ }
 {
     let mut u = from;
     let mut i = at;
@@ -111,7 +112,7 @@ fn advance(
     i: usize,
 ) -> usize
     requires { ⌜ Nodes (now kind) (now to1) (now to2) × (Wide (length (now kind)) (now set) × ((length (now pending) ≡ length (now set)) × ((i < length (now set)) × ((maskOf (now set) < 2 ^ length (now kind)) × (maskOf (now pending) < 2 ^ length (now kind)))))) ⌝ }
-    ensures { λ r. ⌜ (length (now (set .exit)) ≡ length (now (set .entry))) × ((length (now (pending .exit)) ≡ length (now (set .entry))) × Advanced (crossing head tail) (ways (now (kind .entry)) (now (to1 .entry)) (now (to2 .entry))) (length (now (kind .entry))) (length (now (set .entry))) (maskOf (now (set .entry))) (maskOf (now (pending .entry))) i (maskOf (now (set .exit))) (maskOf (now (pending .exit))) r) ⌝ }
+    ensures { λ r. ⌜ (length (now (set .exit)) ≡ length (now (set .entry))) × ((length (now (pending .exit)) ≡ length (now (set .entry))) × Advanced (crosses head tail) (ways (now (kind .entry)) (now (to1 .entry)) (now (to2 .entry))) (length (now (kind .entry))) (length (now (set .entry))) (maskOf (now (set .entry))) (maskOf (now (pending .entry))) i (maskOf (now (set .exit))) (maskOf (now (pending .exit))) r) ⌝ }
 {
     if pending[i] == 0 {
         return i + 1;
@@ -132,7 +133,7 @@ pub fn close(
     tail: bool,
 )
     requires { ⌜ Nodes (now kind) (now to1) (now to2) × (Wide (length (now kind)) (now set) × ((length (now pending) ≡ length (now set)) × ((maskOf (now set) < 2 ^ length (now kind)) × (maskOf (now pending) < 2 ^ length (now kind))))) ⌝ }
-    requires { ⌜ ((v : ℕ) → T (has (maskOf (now pending)) v) → T (has (maskOf (now set)) v)) × FullBut (λ v. T (has (maskOf (now pending)) v)) (crossing head tail) (ways (now kind) (now to1) (now to2)) (maskOf (now set)) ⌝ }
+    requires { ⌜ ((v : ℕ) → T (has (maskOf (now pending)) v) → T (has (maskOf (now set)) v)) × FullBut (λ v. T (has (maskOf (now pending)) v)) (crosses head tail) (ways (now kind) (now to1) (now to2)) (maskOf (now set)) ⌝ }
     ensures { λ _. ⌜ (length (now (set .exit)) ≡ length (now (set .entry))) × ((length (now (pending .exit)) ≡ length (now (set .entry))) × (maskOf (now (set .exit)) ≡ closing head tail (now (kind .entry)) (now (to1 .entry)) (now (to2 .entry)) (maskOf (now (set .entry))))) ⌝ }
 {
     let mut i: usize = 0;

@@ -6,7 +6,8 @@ ghost use lib.Dec.{T};
 ghost use lib.ListN.{length, getD};
 ghost use Rattle.rules.specs.Tools.{has};
 ghost use Rattle.sets.specs.NodeSets.{maskOf};
-ghost use Rattle.closing.specs.Closing.{crossing, ways, Nodes, Wide, Full, markBy, Tails};
+ghost use Rattle.rules.specs.SetRows.{crosses};
+ghost use Rattle.closing.specs.Closing.{ways, Nodes, Wide, Full, markBy, Tails};
 use crate::close;
 use entries::TAIL;
 use kinds::Node;
@@ -49,7 +50,7 @@ pub fn mark_of(
     head: bool,
 ) -> u8
     requires { ⌜ Nodes (now kind) (now to1) (now to2) × (Wide (length (now kind)) (now set) × ((length (now pending) ≡ length (now set)) × ((length (now tails) ≡ length (now set)) × ((last .0 < length (now kind)) × (maskOf (now set) < 2 ^ length (now kind)))))) ⌝ }
-    requires { ⌜ Tails (now kind) (now tails) × Full (crossing head false) (ways (now kind) (now to1) (now to2)) (maskOf (now set)) ⌝ }
+    requires { ⌜ Tails (now kind) (now tails) × Full (crosses head false) (ways (now kind) (now to1) (now to2)) (maskOf (now set)) ⌝ }
     ensures { λ r. ⌜ r ≡ markBy head (now (kind .entry)) (now (to1 .entry)) (now (to2 .entry)) (maskOf (now (set .entry))) (last .0) ⌝ }
 {
     if is_in(set, last) {

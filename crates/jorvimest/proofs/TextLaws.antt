@@ -4,7 +4,7 @@ use mathlib.Core.List.{List}
 use Prim.Native.Nat.{ℕ}
 use Rattle.writing.specs.Texts.{textOf, Shown, shown}
 use Rattle.writing.specs.declared.Text.{Text}
-use Rattle.jorvimest.specs.Codes.{textCode, textLength}
+use Rattle.codes.specs.Codes.{textCode, textLength}
 
 pub text-numbers : (r : Text) (old : ℕ) {new : List ℕ} {s : Shown} {code length : ℕ} → shown r new ≡ s → code ≡ textCode (textOf r) → length ≡ textLength old (textOf r)
     → (code ≡ textCode (s .answer)) × ((length ≡ textLength old (s .answer)) × (new ≡ s .buffer))

@@ -3,33 +3,11 @@ ghost use mathlib.Core.Path.{_≡_};
 ghost use Rattle.rules.specs.Answers.{refusal, refused, given};
 ghost use Rattle.rules.specs.Listing as rule;
 ghost use Rattle.table.specs.Lent.{tableOf};
-ghost use Rattle.writing.specs.Texts.{textOf, shownIn};
+ghost use Rattle.writing.specs.Texts.{shownIn};
 ghost use Rattle.listing.specs.Lines.{listingOf};
-ghost use Rattle.jorvimest.specs.Codes.{textCode, textLength};
+ghost use Rattle.codes.specs.Codes.{textCode, textLength};
+use codes::put_text;
 use kinds::Row;
-use writing::Text;
-
-// 0 for a whole text, 1 for the beginning of a longer one, a refusal's number.
-fn text_code(answer: Text) -> u32
-    ensures { λ r. ⌜ r ≡ textCode (textOf answer) ⌝ }
-{
-    match answer {
-        Text::Refused(r) => kinds::number(r),
-        Text::Written(_) => 0,
-        Text::Longer(_) => 1,
-    }
-}
-
-// The text's length, or else what stood there.
-fn text_length(answer: Text, old: u32) -> u32
-    ensures { λ r. ⌜ r ≡ textLength old (textOf answer) ⌝ }
-{
-    match answer {
-        Text::Refused(_) => old,
-        Text::Written(n) => n,
-        Text::Longer(n) => n,
-    }
-}
 
 // The listing is put into the lent buffer, as far as it reaches, and the listing's length into the lent number.
 #[no_mangle]
@@ -46,8 +24,7 @@ pub extern "C" fn jorvimest_listing(
     ensures out { λ r. ⌜ now (out .exit) ≡ shownIn (now (out .entry)) (listingOf (tableOf rows head (now (marks .entry)) (now (cells .entry)))) .buffer ⌝ }
 {
     let answer = listing::write_table(rows, Row(head), cells, marks, out);
-    *length = text_length(answer, *length);
-    text_code(answer)
+    put_text(answer, length)
 }
 
 // The same of the line of a refusal with any number and any place.
@@ -63,6 +40,5 @@ pub extern "C" fn jorvimest_refusal(
     ensures out { λ r. ⌜ now (out .exit) ≡ shownIn (now (out .entry)) (given (rule.listing (refused (refusal number place)))) .buffer ⌝ }
 {
     let answer = listing::write_refused(number, place, out);
-    *length = text_length(answer, *length);
-    text_code(answer)
+    put_text(answer, length)
 }

@@ -12,11 +12,11 @@ use lib.ListN.{length, getD, set, replicate, length-replicate, getD-replicate}
 use lib.Seq.{getD-set-same, getD-set-other}
 use Rattle.rules.specs.Sizes.{rowsMost, wordsARow}
 use Rattle.rules.specs.Tree.{Tree}
-use Rattle.rules.specs.SetRows.{SetRow, machine, row-at, setRows, rowCount, markOf}
+use Rattle.rules.specs.SetRows.{crosses, SetRow, machine, row-at, setRows, rowCount, markOf}
 use Rattle.rules.specs.Compile.{Room, rowsFor}
 use Rattle.rules.proofs.SetRowsAll.{first-rows}
 use Rattle.sets.specs.NodeSets.{maskOf}
-use Rattle.closing.specs.Closing.{crossing, ways, Full, markBy}
+use Rattle.closing.specs.Closing.{ways, Full, markBy}
 use Rattle.cells.specs.Known.{buckets, Book}
 use Rattle.rows.specs.Rows.{room as lent, RowsIn}
 use Rattle.cells.specs.Cells.{placeOf, takenAt, seedsOf, nodesOf, AtRow, FilledTo}
@@ -43,7 +43,7 @@ module _ {kind to1 to2 starts masks : List ℕ} {runs words room : ℕ} {cells m
   unfolding nodesOf
   nodes-lt = closing-lt (eqb q 1) false kind to1 to2 (K .nodes) (seedsOf (takenAt words sets) q) seeds-small
 
-  pub nodes-full : Full (crossing (eqb q 1) false) (ways kind to1 to2) (nodesOf kind to1 to2 (takenAt words sets) q)
+  pub nodes-full : Full (crosses (eqb q 1) false) (ways kind to1 to2) (nodesOf kind to1 to2 (takenAt words sets) q)
   unfolding nodesOf
   nodes-full = closing-full (eqb q 1) false kind to1 to2 (K .nodes) (seedsOf (takenAt words sets) q) seeds-small
 

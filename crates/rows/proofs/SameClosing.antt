@@ -10,7 +10,7 @@ use lib.ListN.{length, getD}
 use Rattle.rules.specs.Tools.{has}
 use Rattle.rules.specs.Tree.{Tree}
 use Rattle.rules.specs.Nodes.{Edge}
-use Rattle.rules.specs.SetRows.{onEmpty, SetRow, Machine, machine, closure, inside, headRow, markOf, row-at, setRows}
+use Rattle.rules.specs.SetRows.{crosses, onEmpty, SetRow, Machine, machine, closure, inside, headRow, markOf, row-at, setRows}
 use Rattle.rules.proofs.Edges.{_∈_}
 use Rattle.rules.proofs.Closing.{Below, closed-only}
 use Rattle.rules.proofs.RowsRight.{nodes-below}
@@ -18,9 +18,9 @@ use Rattle.rules.proofs.SetRowsAll.{first-rows}
 use Rattle.rules.proofs.TidyNodes.{neat}
 use Rattle.rules.proofs.Taken.{next-taken}
 use Rattle.entries.specs.Nodes.{nodeEdges, listEdges, HoldNodes}
-use Rattle.closing.specs.Closing.{crossing, ways, Nodes, closing, markBy}
+use Rattle.closing.specs.Closing.{ways, Nodes, closing, markBy}
 use Rattle.cells.specs.Cells.{Reached, Going, seedsOf, nodesOf}
-use Rattle.closing.proofs.Ways.{flat-in, flat-of, node-all, cross-bytes}
+use Rattle.closing.proofs.Ways.{flat-in, flat-of, node-all}
 use Rattle.closing.proofs.Sweeps.{closing-keeps, closing-ind, closing-full, closing-lt}
 use Rattle.cells.proofs.RowLaws.{seeds-later}
 
@@ -28,9 +28,9 @@ use Rattle.cells.proofs.RowLaws.{seeds-later}
 
 -- what is crossed of a node's edges does not depend on the bytes of its byte edge, and nor does where they lead
 module _ (a b B C u : ℕ) where
-  edge-crossed : (h t : Bool) (k : ℕ) (x : Edge) → x ∈ nodeEdges k a b B u → T (crossing h t (x .on)) → x ∈ nodeEdges k a b C u
-  edge-crossed h t = node-all a b B u (λ k x. T (crossing h t (x .on)) → x ∈ nodeEdges k a b C u) (λ g. first refl) (λ g. later (first refl)) (λ g. first refl) (λ g. first refl)
-      (λ g. absurd (cross-bytes h t B g))
+  edge-crossed : (h t : Bool) (k : ℕ) (x : Edge) → x ∈ nodeEdges k a b B u → T (crosses h t (x .on)) → x ∈ nodeEdges k a b C u
+  edge-crossed h t = node-all a b B u (λ k x. T (crosses h t (x .on)) → x ∈ nodeEdges k a b C u) (λ g. first refl) (λ g. later (first refl)) (λ g. first refl) (λ g. first refl)
+      (λ g. absurd g)
 
   edge-to : (k : ℕ) (x : Edge) → x ∈ nodeEdges k a b B u → (y : Edge) × (y ∈ nodeEdges k a b C u) × (y .to ≡ x .to)
   edge-to = node-all a b B u (λ k x. (y : Edge) × (y ∈ nodeEdges k a b C u) × (y .to ≡ x .to)) (_, first refl, refl) (_, later (first refl), refl) (_, first refl, refl) (_, first refl, refl)
@@ -40,7 +40,7 @@ abbrev at-node : List ℕ → List ℕ → List ℕ → (ℕ → ℕ) → ℕ �
 at-node kind to1 to2 f u = nodeEdges (getD kind u 0) (getD to1 u 0) (getD to2 u 0) (f u) u
 
 module _ (kind to1 to2 : List ℕ) (f g : ℕ → ℕ) (n : ℕ) where
-  list-crossed : (h t : Bool) (x : Edge) → T (crossing h t (x .on)) → x ∈ listEdges kind to1 to2 f n → x ∈ listEdges kind to1 to2 g n
+  list-crossed : (h t : Bool) (x : Edge) → T (crosses h t (x .on)) → x ∈ listEdges kind to1 to2 f n → x ∈ listEdges kind to1 to2 g n
   unfolding listEdges
   list-crossed h t x c m = let (u, l, e) = flat-of (at-node kind to1 to2 f) 0 n m in
       flat-in (at-node kind to1 to2 g) 0 n u (omega arith) l (edge-crossed (getD to1 u 0) (getD to2 u 0) (f u) (g u) u h t (getD kind u 0) x e c)
@@ -62,9 +62,9 @@ module _ {w : Machine} {kind to1 to2 : List ℕ} {bytes : ℕ → ℕ} (below : 
     below = λ x m. let (y, i, q) = list-to kind to1 to2 (λ u. 0) bytes (length kind) x m in omega (arith, q, below y (H .edges y .1 i), H .count);
   }
 
-  pub closing-same : Nodes kind to1 to2 → (h t : Bool) (m : ℕ) → m < 2 ^ length kind → closing h t kind to1 to2 m ≡ closure w (crossing h t) m
+  pub closing-same : Nodes kind to1 to2 → (h t : Bool) (m : ℕ) → m < 2 ^ length kind → closing h t kind to1 to2 m ≡ closure w (crosses h t) m
   unfolding ways
-  closing-same N h t m small = closed-only w below (crossing h t) m (rw (H .count) small) (closing h t kind to1 to2 m) (rw (H .count) (closing-lt h t kind to1 to2 N m small))
+  closing-same N h t m small = closed-only w below (crosses h t) m (rw (H .count) small) (closing h t kind to1 to2 m) (rw (H .count) (closing-lt h t kind to1 to2 N m small))
       (closing-keeps h t kind to1 to2 N m small)
       (λ x i c f. closing-full h t kind to1 to2 N m small x (list-crossed kind to1 to2 bytes (λ u. 0) (length kind) h t x c (H .edges x .0 i)) c f)
       (λ C carries. closing-ind h t kind to1 to2 N m small C (λ x i c. carries x (H .edges x .1 (list-crossed kind to1 to2 (λ u. 0) bytes (length kind) h t x c i)) c))
@@ -77,13 +77,12 @@ module _ (X : Tree) {kind to1 to2 : List ℕ} {bytes : ℕ → ℕ} (N : Nodes k
   unfolding machine
   last-node = omega (arith, H .count)
 
-  same : (h t : Bool) (m : ℕ) → m < 2 ^ length kind → closing h t kind to1 to2 m ≡ closure (machine X) (crossing h t) m
+  same : (h t : Bool) (m : ℕ) → m < 2 ^ length kind → closing h t kind to1 to2 m ≡ closure (machine X) (crosses h t) m
   same = closing-same (nodes-below X) H N
 
   pub mark-same : (h : Bool) (m : ℕ) → m < 2 ^ length kind → markBy h kind to1 to2 m (length kind - 1) ≡ markOf (machine X) (record { isHead = h; nodes = m })
   unfolding markBy markOf
-  mark-same true m small = ap₂ (λ (f e : ℕ). elim (has m f) [ true ↦ 3 | false ↦ elim (has e f) [ true ↦ 2 | false ↦ 0 ] ]) last-node (same true true m small)
-  mark-same false m small = ap₂ (λ (f e : ℕ). elim (has m f) [ true ↦ 3 | false ↦ elim (has e f) [ true ↦ 2 | false ↦ 0 ] ]) last-node (same false true m small)
+  mark-same h m small = ap₂ (λ (f e : ℕ). elim (has m f) [ true ↦ 3 | false ↦ elim (has e f) [ true ↦ 2 | false ↦ 0 ] ]) last-node (same h true m small)
 
   pub row-same : {taken : ℕ → ℕ} {c b : ℕ} (q : ℕ) → Going (machine X) taken c q b → q < c → seedsOf taken q < 2 ^ length kind
       → row-at (setRows (machine X)) q ≡ record { isHead = eqb q 1; nodes = nodesOf kind to1 to2 taken q }

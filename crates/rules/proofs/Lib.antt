@@ -35,7 +35,5 @@ pub mod LentTable
 pub mod Refusals
 pub mod MatchersOnce
 pub mod CompileOnce
--- the listing and the sums
+-- the listing
 pub mod RunsLongest
-pub mod ListingShown
-pub mod Sums

@@ -12,7 +12,7 @@ use Rattle.rules.specs.Sizes.{textMost}
 use Rattle.rules.specs.Meaning.{IsWhole, IsLongest, IsFirst, IsStarts}
 use Rattle.rules.specs.Table.{Table, Takes, WellFormed, wellFormed, whole, longest, first, starts}
 use Rattle.rules.specs.Answers.{Refusal, refusal, Answer, refused, given, Due, FirstDue}
-use Rattle.rules.specs.Matchers.{NotFormed, LongText, PastEnd, fewPlaces, FewPlaces, MatchRefusals, LongestRefusals, StartsRefusals, Wholes, Longests, Firsts, Part, partOf, Parts, Listed, listedIn, Starts, checked, wholeAnswer, longestAnswer, firstAnswer, partAnswer, startsFound, startsAnswer}
+use Rattle.rules.specs.Matchers.{NotFormed, LongText, PastEnd, fewPlaces, FewPlaces, MatchRefusals, Wholes, Longests, Firsts, Part, partOf, Parts, Listed, listedIn, Starts, checked, wholeAnswer, longestAnswer, firstAnswer, partAnswer, startsFound, startsAnswer}
 use Rattle.rules.proofs.Tests.{is-false, lt-test}
 use Rattle.rules.proofs.TableLaws.{well-formed-test}
 use Rattle.rules.proofs.Answers.{whole-only, longest-only, first-only, starts-only, whole-is, longest-is, starts-is, first-is}
@@ -41,7 +41,7 @@ module _ (w : Table) (t : List ℕ) where
   -- ---- what is computed fits
 
   -- 13, then 12, then what is due after them
-  checks : {A : Type 0} (P : A → Type 0) (Cs : List (Refusal → Type 0)) (x : Answer A) → Due Cs P x → Due (NotFormed w ∷ LongText t ∷ Cs) P (checked w t x)
+  checks : {A : Type 0} (P : A → Type 0) (Cs : List (Refusal → Type 0)) (x : Answer A) → Due Cs P x → Due (MatchRefusals w t Cs) P (checked w t x)
   unfolding checked
   checks {A} P Cs x h = go (wellFormed w) (well-formed-test w)
     where
@@ -49,7 +49,7 @@ module _ (w : Table) (t : List ℕ) where
       rest = tested P (LongText t) Cs (refusal 12 0) (ltb textMost (length t)) (λ q c. (lt-test textMost (length t) .1 (c .0), c .1)) (λ l. (lt-test textMost (length t) .0 l, refl)) x (λ n. h)
 
       go : (b : Bool) → (b ≡ true) ↔ WellFormed w
-          → Due (NotFormed w ∷ LongText t ∷ Cs) P (elim b [ false ↦ refused (refusal 13 0) | true ↦ elim (ltb textMost (length t)) [ true ↦ refused (refusal 12 0) | false ↦ x ] ])
+          → Due (MatchRefusals w t Cs) P (elim b [ false ↦ refused (refusal 13 0) | true ↦ elim (ltb textMost (length t)) [ true ↦ refused (refusal 12 0) | false ↦ x ] ])
       go true f = (λ q c. absurd (c .0 (f .0 refl)), λ n. rest)
       go false f = (λ q c. ap {B = Answer A} refused (sym (c .1)), λ n. absurd (n (refusal 13 0) (λ g. is-false true (sym (f .1 g)) tt, refl)))
 
@@ -70,7 +70,7 @@ module _ (w : Table) (t : List ℕ) where
   unfolding partAnswer
   part-fits = record { found = firstAnswer w t; firsts = first-fits; result = refl }
 
-  starts-due : (list : List ℕ) → Due (StartsRefusals w t list) (IsStarts (Takes w t)) (startsFound w t list)
+  starts-due : (list : List ℕ) → Due (MatchRefusals w t (FewPlaces w t list ∷ [])) (IsStarts (Takes w t)) (startsFound w t list)
   unfolding startsFound
   starts-due list = checks (IsStarts (Takes w t)) (FewPlaces w t list ∷ []) _
       (tested (IsStarts (Takes w t)) (FewPlaces w t list) [] (fewPlaces (starts w t)) (ltb (length list) (length (starts w t))) only holds (given (starts w t)) (λ n. starts-is w t))
@@ -88,43 +88,43 @@ module _ (w : Table) (t : List ℕ) where
 
   -- ---- every condition is decided
 
-  match-decided : AllDecided (MatchRefusals w t)
+  match-decided : AllDecided (MatchRefusals w t [])
   match-decided = (formed-decided, (text-decided, tt))
 
-  longest-decided : (s : ℕ) → AllDecided (LongestRefusals w t s)
+  longest-decided : (s : ℕ) → AllDecided (MatchRefusals w t (PastEnd t s ∷ []))
   longest-decided s = (formed-decided, (text-decided, (below-decided (length t) s (refusal 14 0), tt)))
 
-  starts-decided : (list : List ℕ) → AllDecided (StartsRefusals w t list)
+  starts-decided : (list : List ℕ) → AllDecided (MatchRefusals w t (FewPlaces w t list ∷ []))
   starts-decided list = (formed-decided, (text-decided, (places-decided list, tt)))
 
   -- ---- no second answer fits
 
   pub whole-once : (x y : Answer Bool) → Wholes w t x → Wholes w t y → x ≡ y
-  whole-once = due-once (IsWhole (Takes w t) (length t)) (MatchRefusals w t) match-decided (whole-only (Takes w t) (length t))
+  whole-once = due-once (IsWhole (Takes w t) (length t)) (MatchRefusals w t []) match-decided (whole-only (Takes w t) (length t))
 
   pub longest-once : (s : ℕ) (x y : Answer (Option ℕ)) → Longests w t s x → Longests w t s y → x ≡ y
-  longest-once s = due-once (IsLongest (Takes w t) s) (LongestRefusals w t s) (longest-decided s) (longest-only (Takes w t) s)
+  longest-once s = due-once (IsLongest (Takes w t) s) (MatchRefusals w t (PastEnd t s ∷ [])) (longest-decided s) (longest-only (Takes w t) s)
 
   pub first-once : (x y : Answer (Option (ℕ × ℕ))) → Firsts w t x → Firsts w t y → x ≡ y
-  first-once = due-once (IsFirst (Takes w t)) (MatchRefusals w t) match-decided (first-only (Takes w t))
+  first-once = due-once (IsFirst (Takes w t)) (MatchRefusals w t []) match-decided (first-only (Takes w t))
 
   pub part-once : (x y : Part) → Parts w t x → Parts w t y → x ≡ y
   part-once x y a b = a .result ∙ ap (partOf t) (first-once (a .found) (b .found) (a .firsts) (b .firsts)) ∙ sym (b .result)
 
   pub starts-once : (list : List ℕ) (x y : Listed) → Starts w t list x → Starts w t list y → x ≡ y
   starts-once list x y a b =
-      a .result ∙ ap (listedIn list) (due-once (IsStarts (Takes w t)) (StartsRefusals w t list) (starts-decided list) starts-only (a .found) (b .found) (a .due) (b .due)) ∙ sym (b .result)
+      a .result ∙ ap (listedIn list) (due-once (IsStarts (Takes w t)) (MatchRefusals w t (FewPlaces w t list ∷ [])) (starts-decided list) starts-only (a .found) (b .found) (a .due) (b .due)) ∙ sym (b .result)
 
   -- ---- a refusal is given exactly when it is due
 
-  pub whole-refuses : (r : Refusal) → (wholeAnswer w t ≡ refused r) ↔ FirstDue (MatchRefusals w t) r
-  whole-refuses = due-exactly (IsWhole (Takes w t) (length t)) (MatchRefusals w t) match-decided (wholeAnswer w t) whole-fits
+  pub whole-refuses : (r : Refusal) → (wholeAnswer w t ≡ refused r) ↔ FirstDue (MatchRefusals w t []) r
+  whole-refuses = due-exactly (IsWhole (Takes w t) (length t)) (MatchRefusals w t []) match-decided (wholeAnswer w t) whole-fits
 
-  pub longest-refuses : (s : ℕ) (r : Refusal) → (longestAnswer w t s ≡ refused r) ↔ FirstDue (LongestRefusals w t s) r
-  longest-refuses s = due-exactly (IsLongest (Takes w t) s) (LongestRefusals w t s) (longest-decided s) (longestAnswer w t s) (longest-fits s)
+  pub longest-refuses : (s : ℕ) (r : Refusal) → (longestAnswer w t s ≡ refused r) ↔ FirstDue (MatchRefusals w t (PastEnd t s ∷ [])) r
+  longest-refuses s = due-exactly (IsLongest (Takes w t) s) (MatchRefusals w t (PastEnd t s ∷ [])) (longest-decided s) (longestAnswer w t s) (longest-fits s)
 
-  pub first-refuses : (r : Refusal) → (firstAnswer w t ≡ refused r) ↔ FirstDue (MatchRefusals w t) r
-  first-refuses = due-exactly (IsFirst (Takes w t)) (MatchRefusals w t) match-decided (firstAnswer w t) first-fits
+  pub first-refuses : (r : Refusal) → (firstAnswer w t ≡ refused r) ↔ FirstDue (MatchRefusals w t []) r
+  first-refuses = due-exactly (IsFirst (Takes w t)) (MatchRefusals w t []) match-decided (firstAnswer w t) first-fits
 
-  pub starts-refuses : (list : List ℕ) (r : Refusal) → (startsFound w t list ≡ refused r) ↔ FirstDue (StartsRefusals w t list) r
-  starts-refuses list = due-exactly (IsStarts (Takes w t)) (StartsRefusals w t list) (starts-decided list) (startsFound w t list) (starts-due list)
+  pub starts-refuses : (list : List ℕ) (r : Refusal) → (startsFound w t list ≡ refused r) ↔ FirstDue (MatchRefusals w t (FewPlaces w t list ∷ [])) r
+  starts-refuses list = due-exactly (IsStarts (Takes w t)) (MatchRefusals w t (FewPlaces w t list ∷ [])) (starts-decided list) (startsFound w t list) (starts-due list)

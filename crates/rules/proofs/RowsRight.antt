@@ -14,7 +14,7 @@ use Rattle.rules.specs.Tools.{has}
 use Rattle.rules.specs.Tree.{Tree}
 use Rattle.rules.specs.Meaning.{Match}
 use Rattle.rules.specs.Nodes.{Kind, empty, onHead, onTail, onBytes, frag}
-use Rattle.rules.specs.SetRows.{onEmpty, orHead, orTail, orEither, onByte, across, closure, SetRow, Machine, machine, inside, headRow, next, atTheEnd, markOf}
+use Rattle.rules.specs.SetRows.{crosses, onEmpty, orHead, onByte, across, closure, SetRow, Machine, machine, inside, headRow, next, atTheEnd, markOf}
 use Rattle.rules.specs.Table.{fits}
 use Rattle.rules.proofs.Texts.{slice-more}
 use Rattle.rules.proofs.Tests.{eq-test}
@@ -60,24 +60,12 @@ mark-holds w r atEnd = table (has (r .nodes) (w .final)) (has (atTheEnd w r) (w 
 
 -- ---- edges that are crossed in place
 
--- at the head row or another, before the text's end or at it
-abbrev inPlace : Bool → Bool → Kind → Bool
-inPlace isHead true = elim isHead [ true ↦ orEither | false ↦ orTail ]
-inPlace isHead false = elim isHead [ true ↦ orHead | false ↦ onEmpty ]
-
-by-kind : (isHead atEnd : Bool) → (inPlace isHead atEnd empty ≡ true) × (inPlace isHead atEnd onHead ≡ isHead)
-    × (inPlace isHead atEnd onTail ≡ atEnd) × ((B : ℕ) → inPlace isHead atEnd (onBytes B) ≡ false)
-by-kind true true = (refl, refl, refl, λ B. refl)
-by-kind true false = (refl, refl, refl, λ B. refl)
-by-kind false true = (refl, refl, refl, λ B. refl)
-by-kind false false = (refl, refl, refl, λ B. refl)
-
 module _ (t : List ℕ) (p : ℕ) where
-  cross-place : (isHead atEnd : Bool) (k : Kind) → (T isHead → p ≡ 0) → (T atEnd → p ≡ length t) → T (inPlace isHead atEnd k) → Cross t k p p
+  cross-place : (isHead atEnd : Bool) (k : Kind) → (T isHead → p ≡ 0) → (T atEnd → p ≡ length t) → T (crosses isHead atEnd k) → Cross t k p p
   cross-place isHead atEnd empty z n c = refl
-  cross-place isHead atEnd onHead z n c = let h : T isHead = rw (by-kind isHead atEnd .1) at c in (z h, z h)
-  cross-place isHead atEnd onTail z n c = let h : T atEnd = rw (by-kind isHead atEnd .2) at c in (n h, n h)
-  cross-place isHead atEnd (onBytes B) z n c = absurd (rw (by-kind isHead atEnd .3 B) at c)
+  cross-place isHead atEnd onHead z n c = (z c, z c)
+  cross-place isHead atEnd onTail z n c = (n c, n c)
+  cross-place isHead atEnd (onBytes B) z n c = absurd c
 
   cross-byte : (k : Kind) → p < length t → T (onByte (getD t p 0) k) → Cross t k p (suc p)
   cross-byte empty l c = absurd c
@@ -87,10 +75,10 @@ module _ (t : List ℕ) (p : ℕ) where
 
   -- an edge is crossed in place, or on the byte at p
   crossed : (isHead atEnd : Bool) (k : Kind) (q : ℕ) → (p ≡ 0 → T isHead) → (p ≡ length t → T atEnd) → Cross t k p q
-      → ((p ≡ q) × T (inPlace isHead atEnd k)) ⊎ ((suc p ≡ q) × (p < length t) × T (onByte (getD t p 0) k))
-  crossed isHead atEnd empty q z n c = inl (c, rw (by-kind isHead atEnd .0) tt)
-  crossed isHead atEnd onHead q z n c = inl (omega arith, rw (by-kind isHead atEnd .1) (z (c .0)))
-  crossed isHead atEnd onTail q z n c = inl (omega arith, rw (by-kind isHead atEnd .2) (n (c .0)))
+      → ((p ≡ q) × T (crosses isHead atEnd k)) ⊎ ((suc p ≡ q) × (p < length t) × T (onByte (getD t p 0) k))
+  crossed isHead atEnd empty q z n c = inl (c, tt)
+  crossed isHead atEnd onHead q z n c = inl (omega arith, z (c .0))
+  crossed isHead atEnd onTail q z n c = inl (omega arith, n (c .0))
   crossed isHead atEnd (onBytes B) q z n c = inr (sym (c .0), c .1, c .2)
 
 -- ---- the nodes of a machine are few
@@ -132,16 +120,16 @@ module _ (w : Machine) (below : Below w) (small : 1 < 2 ^ w .count) (t : List �
   record Known (p : ℕ) (r : SetRow) : Type 0 where
     head : T (r .isHead) ↔ (p ≡ 0)
     low : r .nodes < 2 ^ w .count
-    full : All (Carries (inPlace (r .isHead) false) (λ v. T (has (r .nodes) v))) (w .links)
+    full : All (Carries (crosses (r .isHead) false) (λ v. T (has (r .nodes) v))) (w .links)
     reached : (u : ℕ) → T (has (r .nodes) u) → Walk t (w .links) 0 s u p
 
   closed-known : (p m : ℕ) (isHead : Bool) → (T isHead ↔ (p ≡ 0)) → m < 2 ^ w .count → ((u : ℕ) → T (has m u) → Walk t (w .links) 0 s u p)
-      → Known p (record { isHead = isHead; nodes = closure w (inPlace isHead false) m })
+      → Known p (record { isHead = isHead; nodes = closure w (crosses isHead false) m })
   closed-known p m isHead head l ways = record {
     head = head;
-    low = closed-lt w below (inPlace isHead false) m l;
-    full = closed-full w below (inPlace isHead false) m l;
-    reached = closed-ind w (inPlace isHead false) m (λ u. Walk t (w .links) 0 s u p)
+    low = closed-lt w below (crosses isHead false) m l;
+    full = closed-full w below (crosses isHead false) m l;
+    reached = closed-ind w (crosses isHead false) m (λ u. Walk t (w .links) 0 s u p)
         (λ x h c. step h (cross-place t p isHead false (x .on) (head .0) (λ f. absurd f) c)) ways;
   }
 
@@ -174,12 +162,12 @@ module _ (w : Machine) (below : Below w) (small : 1 < 2 ^ w .count) (t : List �
   -- ---- the row holds the nodes that walks reach
 
   holds-reached : (p : ℕ) (r : SetRow) → Known p r → (a : Bool) → (T a → p ≡ length t) → (u : ℕ) → T (holds w r a u) → Walk t (w .links) 0 s u p
-  holds-reached p r k true end = closed-ind w (inPlace (r .isHead) true) (r .nodes) (λ u. Walk t (w .links) 0 s u p)
+  holds-reached p r k true end = closed-ind w (crosses (r .isHead) true) (r .nodes) (λ u. Walk t (w .links) 0 s u p)
       (λ x h c. step h (cross-place t p (r .isHead) true (x .on) (k .head .0) end c)) (k .reached)
   holds-reached p r k false end = k .reached
 
-  holds-full : (p : ℕ) (r : SetRow) → Known p r → (a : Bool) → All (Carries (inPlace (r .isHead) a) (λ v. T (holds w r a v))) (w .links)
-  holds-full p r k true = closed-full w below (inPlace (r .isHead) true) (r .nodes) (k .low)
+  holds-full : (p : ℕ) (r : SetRow) → Known p r → (a : Bool) → All (Carries (crosses (r .isHead) a) (λ v. T (holds w r a v))) (w .links)
+  holds-full p r k true = closed-full w below (crosses (r .isHead) true) (r .nodes) (k .low)
   holds-full p r k false = k .full
 
   -- the row at place p holds node u
@@ -193,7 +181,7 @@ module _ (w : Machine) (below : Below w) (small : 1 < 2 ^ w .count) (t : List �
       here : Known p (rowAt p)
       here = known p (k .0) (k .1)
 
-      stays : (p ≡ q) × T (inPlace (rowAt p .isHead) (atEnd p) (x .on)) → Held (x .to) q
+      stays : (p ≡ q) × T (crosses (rowAt p .isHead) (atEnd p) (x .on)) → Held (x .to) q
       stays y = subst (Held (x .to)) (y .0) (k .0, k .1, holds-full p (rowAt p) here (atEnd p) x h (y .1) (k .2))
 
       before : (a : Bool) → (T a → ⊥) → T (holds w (rowAt p) a (x .from)) → T (has (rowAt p .nodes) (x .from))

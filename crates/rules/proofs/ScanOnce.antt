@@ -8,9 +8,9 @@ use lib.ListN.{length}
 use borrow.Author.Tests.{lt-ltb, le-ltb}
 use Rattle.rules.specs.Sizes.{groupsMost}
 use Rattle.rules.specs.Tree.{Repeat, Tree, repeated}
-use Rattle.rules.specs.Grammar.{theEnd, Part, atom, piece, pieces, branch, pattern, Spells, alone, group as inGroup, once, withSign, firstPiece, nextPiece, emptyBranch, someBranch, firstBranch, nextBranch, Legal}
+use Rattle.rules.specs.Grammar.{repeats, noCount, theEnd, Part, atom, piece, pieces, branch, pattern, Spells, alone, group as inGroup, once, withSign, firstPiece, nextPiece, emptyBranch, someBranch, firstBranch, nextBranch, Legal}
 use Rattle.rules.specs.Turned.{Before, noAtom, anAtom, aRepeat, NotAtom, Reach, start, pastSingle, pastRepeat, pastOpen, pastClose, pastBar, Fault, two, twoBrace, three, four, five, six, seven, eight, nine}
-use Rattle.rules.specs.Reader.{token, Reading, got, bad, Branch, empty, after, full, Group, group, add, soFar, ended, treeOf, more, on, stop, moveClose, moveEnd, moveRepeat, moveBrace, move, run}
+use Rattle.rules.specs.Reader.{token, Reading, got, bad, Branch, empty, after, full, Group, group, add, soFar, ended, treeOf, more, on, stop, moveClose, moveEnd, move, run}
 use Rattle.rules.proofs.TokensRead.{token-is}
 
 -- ---- the scan, from place to place
@@ -65,9 +65,7 @@ Scanned branch d s X u = (A : Option Tree) (K : List Group) → length K ≡ d �
 Scanned pattern d s X u = (K : List Group) → length K ≡ d → Spelled K s u X
 
 ended-is : (B : Branch) {X : Tree} → soFar B ≡ some X → ended B ≡ X
-ended-is empty e = cc
-ended-is (after R Y) e = cc
-ended-is (full R) e = cc
+ended-is B e = rw e refl
 
 scanned : {P : Part} {d : ℕ} {s u : List ℕ} {X : Tree} → Spells P d s X u → Scanned P d s X u
 scanned (alone t) = λ G K l. step (simp (token-is t))
@@ -112,23 +110,23 @@ before-more (group A B) X = refl
 record AfterAtom (G : Group) : Type 0 where
   next : Repeat → Group
   last : (k : Repeat) → before (next k) ≡ aRepeat
-  sign : (k : Repeat) (s u : List ℕ) (K : List Group) → moveRepeat k s u G K ≡ on u (next k) K
-  brace : (s : List ℕ) → moveBrace s G ≡ stop (bad 3 s)
+  sign : (k : Repeat) (s u : List ℕ) (K : List Group) → move (repeats k u) s G K ≡ on u (next k) K
+  brace : (s : List ℕ) (K : List Group) → move noCount s G K ≡ stop (bad 3 s)
 
 after-atom : (G : Group) → before G ≡ anAtom → AfterAtom G
 after-atom (group A empty) e = absurd (subst NotAtom e tt)
-after-atom (group A (after R X)) e = record { next = λ k. group A (full (add R (repeated k X))); last = λ k. refl; sign = λ k s u K. refl; brace = λ s. refl }
+after-atom (group A (after R X)) e = record { next = λ k. group A (full (add R (repeated k X))); last = λ k. refl; sign = λ k s u K. refl; brace = λ s K. refl }
 after-atom (group A (full R)) e = absurd (subst NotAtom e tt)
 
 -- a repeat sign where no atom stands before it
 record AfterNone (G : Group) : Type 0 where
-  sign : (k : Repeat) (s u : List ℕ) (K : List Group) → moveRepeat k s u G K ≡ stop (bad 2 s)
-  brace : (s : List ℕ) → moveBrace s G ≡ stop (bad 2 s)
+  sign : (k : Repeat) (s u : List ℕ) (K : List Group) → move (repeats k u) s G K ≡ stop (bad 2 s)
+  brace : (s : List ℕ) (K : List Group) → move noCount s G K ≡ stop (bad 2 s)
 
 after-none : {b : Before} (G : Group) → before G ≡ b → NotAtom b → AfterNone G
-after-none (group A empty) e h = record { sign = λ k s u K. refl; brace = λ s. refl }
+after-none (group A empty) e h = record { sign = λ k s u K. refl; brace = λ s K. refl }
 after-none (group A (after R X)) e h = absurd (subst NotAtom (sym e) h)
-after-none (group A (full R)) e h = record { sign = λ k s u K. refl; brace = λ s. refl }
+after-none (group A (full R)) e h = record { sign = λ k s u K. refl; brace = λ s K. refl }
 
 -- the groups around: there is one, or there is none
 record Enclosed (K : List Group) (d : ℕ) : Type 0 where
@@ -178,8 +176,8 @@ reached (pastBar r t) = let x = reached r in arrive x (group (some (treeOf (x .n
 
 pub fault-answers : {p s : List ℕ} {n : ℕ} → Fault p n s → Answers p (bad n s)
 fault-answers (two {s = s} {u = u} {k = k} r h t) = let x = reached r in answer (x .leads) (simp (token-is t) (after-none (x .now) (x .last) h .sign k s u (x .around)))
-fault-answers (twoBrace {s = s} r h t) = let x = reached r in answer (x .leads) (simp (token-is t) (after-none (x .now) (x .last) h .brace s))
-fault-answers (three {s = s} r t) = let x = reached r in answer (x .leads) (simp (token-is t) (after-atom (x .now) (x .last) .brace s))
+fault-answers (twoBrace {s = s} r h t) = let x = reached r in answer (x .leads) (simp (token-is t) (after-none (x .now) (x .last) h .brace s (x .around)))
+fault-answers (three {s = s} r t) = let x = reached r in answer (x .leads) (simp (token-is t) (after-atom (x .now) (x .last) .brace s (x .around)))
 fault-answers (four r t) = let x = reached r in answer (x .leads) (simp (token-is t))
 fault-answers (five r t) = let x = reached r in answer (x .leads) (simp (token-is t))
 fault-answers (six r t) = let x = reached r in answer (x .leads) (simp (token-is t))

@@ -13,7 +13,7 @@ use Rattle.rules.specs.Sizes.{groupsMost}
 use Rattle.rules.specs.Tree.{Repeat, Tree, repeated}
 use Rattle.rules.specs.Grammar.{Token, single, repeats, opens, closes, parts, ends, noCount, noClass, noEscape, stray, Stands, atom, pieces, branch, pattern, Spells, alone, group as inGroup, once, withSign, firstPiece, nextPiece, emptyBranch, someBranch, firstBranch, nextBranch, Legal}
 use Rattle.rules.specs.Turned.{Reach, start, pastSingle, pastRepeat, pastOpen, pastClose, pastBar, Fault, two, twoBrace, three, four, five, six, seven, eight, nine}
-use Rattle.rules.specs.Reader.{token, Reading, got, bad, Branch, empty, after, full, Group, group, add, soFar, ended, treeOf, more, moveOpen, moveClose, moveEnd, moveRepeat, moveBrace, move, goOn, run, read}
+use Rattle.rules.specs.Reader.{token, Reading, got, bad, Branch, empty, after, full, Group, group, add, soFar, ended, treeOf, more, moveOpen, moveClose, moveEnd, move, goOn, run, read}
 use Rattle.rules.proofs.TokensRead.{token-stands, Shorter, stands-shorter}
 use Rattle.rules.proofs.ScanOnce.{before, before-more, Answers, answers-once, legal-answers, fault-answers}
 
@@ -96,12 +96,12 @@ module _ {p s : List ℕ} {f : ℕ} (k : List ℕ → Group → List Group → R
       → GroupRead (length K) (x .began) H u → Reach p u (before H) (length K) → length u < length s → Right p (k u H K)
   further x g r l = onward _ _ _ (record { began = x .began; around = x .around; inside = g; reach = r }) (omega arith)
 
-  on-repeat : {j : Repeat} {u : List ℕ} (G : Group) (K : List Group) → At p s G K → Stands s (repeats j u) → length u < length s → Right p (goOn (moveRepeat j s u G K) k)
+  on-repeat : {j : Repeat} {u : List ℕ} (G : Group) (K : List Group) → At p s G K → Stands s (repeats j u) → length u < length s → Right p (goOn (move (repeats j u) s G K) k)
   on-repeat (group A empty) K x t l = two (x .reach) tt t
   on-repeat (group A (after R X)) K x t l = further x (group-repeat (x .inside) t) (pastRepeat (x .reach) t) l
   on-repeat (group A (full R)) K x t l = two (x .reach) tt t
 
-  on-brace : (G : Group) (K : List Group) → At p s G K → Stands s noCount → Right p (goOn (moveBrace s G) k)
+  on-brace : (G : Group) (K : List Group) → At p s G K → Stands s noCount → Right p (goOn (move noCount s G K) k)
   on-brace (group A empty) K x t = twoBrace (x .reach) tt t
   on-brace (group A (after R X)) K x t = three (x .reach) t
   on-brace (group A (full R)) K x t = twoBrace (x .reach) tt t

@@ -1,12 +1,13 @@
--- Sets as numbers: what `with` adds, and that sets with the same members are one number.
+-- Sets as numbers: what `with` adds, what two sets have, and that sets with the same members are one number.
 use mathlib.Core.Path.{_≡_, refl, _∙_, sym, ap}
 use mathlib.Core.Logic.{_≢_, _⊎_, inl, inr}
-use mathlib.Core.Bool.{true, false}
+use mathlib.Core.Bool.{true, false, _&&_, _||_}
 use Prim.Native.Nat.{ℕ, zero, suc, _+_, _/_, _%_, _<_, _≤_, _^_}
 use native.Mathlib.Nat.{pow-succ', div-one, div-div-eq-div-mul}
 use native.Mathlib.Decide.{ℕ-discrete}
 use native.Mathlib.Omega.{arith}
-use lib.Dec.{T, eqb→eq}
+use lib.Bits.{bitAnd, bitOr, and-shr, or-shr, and-mod, or-mod}
+use lib.Dec.{T, eqb, eqb→eq}
 use Rattle.rules.specs.Tools.{has, with}
 use Rattle.rules.proofs.Tests.{eq-test, by-test}
 
@@ -112,3 +113,25 @@ zero-has k h = omega (arith, zero-bit k, has-bit 0 k h)
 pub one-has : (k : ℕ) → T (has 1 k) → k ≡ 0
 one-has zero h = refl
 one-has (suc k) h = absurd (zero-has k (bit-has 0 k (sym (bit-suc 1 k) ∙ has-bit 1 (suc k) h)))
+
+-- ---- what either of two sets has, and what both have
+
+-- a statement about the lowest bit of a number, or of two, in its cases
+of-bit : (C : ℕ → Type 0) → C 0 → C 1 → (m : ℕ) → C (m % 2)
+of-bit C f g m = go (m % 2) (omega arith)
+  where
+    go : (x : ℕ) → x < 2 → C x
+    go zero l = f
+    go (suc zero) l = g
+    go (suc (suc x)) l = absurd (omega arith)
+
+of-bits : (C : ℕ → ℕ → Type 0) → C 0 0 → C 0 1 → C 1 0 → C 1 1 → (m q : ℕ) → C (m % 2) (q % 2)
+of-bits C a b c d m q = of-bit (λ x. C x (q % 2)) (of-bit (C 0) a b q) (of-bit (C 1) c d q) m
+
+pub has-or : (m q k : ℕ) → has (bitOr m q) k ≡ (has m k || has q k)
+has-or m q k = ap (λ (x : ℕ). eqb (x % 2) 1) (or-shr m q k) ∙ ap (λ (x : ℕ). eqb x 1) (or-mod (m / 2 ^ k) (q / 2 ^ k) 1)
+    ∙ of-bits (λ x y. eqb (bitOr x y) 1 ≡ (eqb x 1 || eqb y 1)) refl refl refl refl (m / 2 ^ k) (q / 2 ^ k)
+
+pub has-and : (m q k : ℕ) → has (bitAnd m q) k ≡ (has m k && has q k)
+has-and m q k = ap (λ (x : ℕ). eqb (x % 2) 1) (and-shr m q k) ∙ ap (λ (x : ℕ). eqb x 1) (and-mod (m / 2 ^ k) (q / 2 ^ k) 1)
+    ∙ of-bits (λ x y. eqb (bitAnd x y) 1 ≡ (eqb x 1 && eqb y 1)) refl refl refl refl (m / 2 ^ k) (q / 2 ^ k)

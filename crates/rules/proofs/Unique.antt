@@ -68,7 +68,7 @@ listed-cell w j i l = more (listed-up w (suc j) i l)
 
 module _ (w : Table) (good : Formed w) (numbered : Numbered w) where
   listed-rows : (i : ℕ) → i ≤ 256 * w .count → listedBy w i ≤ w .count
-  listed-rows zero l = good .head-row
+  listed-rows zero l = omega (arith, good .head-row)
   listed-rows (suc i) l = omega (arith, listed-rows i (omega arith), good .cells-rows i l)
 
   next-cell : (i : ℕ) → i < 256 * w .count → getD (w .cells) i 0 ≤ listedBy w i
@@ -242,7 +242,7 @@ module _ (w v : Table) (gw : Formed w) (gv : Formed v) (nw : Numbered w) (nv : N
         lv = omega (arith, counts)
 
   scan : (i : ℕ) → i ≤ 256 * w .count → (listedBy w i ≡ listedBy v i) × Agree (listedBy w i)
-  scan zero l = (ap suc heads, λ p lp. agree-more 1 (w .head) (v .head) agree-zero (same-begins w v like 0) heads p (λ n. omega (arith, nw .head-next)))
+  scan zero l = (omega (arith, heads), λ p lp. agree-more 1 (w .head) (v .head) agree-zero (same-begins w v like 0) heads p (λ n. omega (arith, nw .head-next)))
   scan (suc i) l = step (scan i (omega arith))
     where
       step : (listedBy w i ≡ listedBy v i) × Agree (listedBy w i) → (listedBy w (suc i) ≡ listedBy v (suc i)) × Agree (listedBy w (suc i))

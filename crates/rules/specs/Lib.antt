@@ -27,6 +27,5 @@ pub mod Listing
 pub mod Reader
 pub mod Grid
 pub mod Compiled
--- what is demanded, and the sums worked on paper
+-- what is demanded
 pub mod Demands
-pub mod Sums

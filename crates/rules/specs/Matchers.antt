@@ -30,26 +30,20 @@ fewPlaces xs = record { number = 15; place = 0; values = length xs ∷ [] }
 abbrev pub FewPlaces : Table → List ℕ → List ℕ → Refusal → Type 0
 FewPlaces w t list r = (xs : List ℕ) × IsStarts (Takes w t) xs × (length list < length xs) × (r ≡ fewPlaces xs)
 
--- in order, for whole and first; for longest; for starts
-abbrev pub MatchRefusals : Table → List ℕ → List (Refusal → Type 0)
-MatchRefusals w t = NotFormed w ∷ LongText t ∷ []
-
-abbrev pub LongestRefusals : Table → List ℕ → ℕ → List (Refusal → Type 0)
-LongestRefusals w t s = NotFormed w ∷ LongText t ∷ PastEnd t s ∷ []
-
-abbrev pub StartsRefusals : Table → List ℕ → List ℕ → List (Refusal → Type 0)
-StartsRefusals w t list = NotFormed w ∷ LongText t ∷ FewPlaces w t list ∷ []
+-- in order: those of every matcher, then its own
+abbrev pub MatchRefusals : Table → List ℕ → List (Refusal → Type 0) → List (Refusal → Type 0)
+MatchRefusals w t own = NotFormed w ∷ LongText t ∷ own
 
 -- ---- what is asked of each
 
 abbrev pub Wholes : Table → List ℕ → Answer Bool → Type 0
-Wholes w t = Due (MatchRefusals w t) (IsWhole (Takes w t) (length t))
+Wholes w t = Due (MatchRefusals w t []) (IsWhole (Takes w t) (length t))
 
 abbrev pub Longests : Table → List ℕ → ℕ → Answer (Option ℕ) → Type 0
-Longests w t s = Due (LongestRefusals w t s) (IsLongest (Takes w t) s)
+Longests w t s = Due (MatchRefusals w t (PastEnd t s ∷ [])) (IsLongest (Takes w t) s)
 
 abbrev pub Firsts : Table → List ℕ → Answer (Option (ℕ × ℕ)) → Type 0
-Firsts w t = Due (MatchRefusals w t) (IsFirst (Takes w t))
+Firsts w t = Due (MatchRefusals w t []) (IsFirst (Takes w t))
 
 -- The part form of first: the lent number, the place in the text of the part handed back, and its bytes.
 pub record Part : Type 0 where
@@ -80,7 +74,7 @@ listedIn list (given xs) = record { answer = given (length xs); list = xs ++ dro
 
 pub record Starts (w : Table) (t list : List ℕ) (o : Listed) : Type 0 where
   pub found : Answer (List ℕ)
-  pub due : Due (StartsRefusals w t list) (IsStarts (Takes w t)) found
+  pub due : Due (MatchRefusals w t (FewPlaces w t list ∷ [])) (IsStarts (Takes w t)) found
   pub result : o ≡ listedIn list found
 
 -- ---- computed

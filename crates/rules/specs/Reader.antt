@@ -20,8 +20,7 @@ past c (x ∷ xs) = guard (eqb x c) xs
 
 abbrev pub pastAll : List ℕ → List ℕ → Option (List ℕ)
 pastAll [] xs = some xs
-pastAll (c ∷ cs) [] = none
-pastAll (c ∷ cs) (x ∷ xs) = guard (eqb x c) xs >>= λ u. pastAll cs u
+pastAll (c ∷ cs) xs = past c xs >>= pastAll cs
 
 abbrev pub hexByte : List ℕ → Option (ℕ × List ℕ)
 hexByte [] = none
@@ -135,9 +134,7 @@ soFar (after R X) = some (add R X)
 soFar (full R) = some R
 
 abbrev pub ended : Branch → Tree
-ended empty = nothing
-ended (after R X) = add R X
-ended (full R) = R
+ended B = ifSome (soFar B) (λ X. X) nothing
 
 abbrev pub treeOf : Group → Tree
 treeOf (group none B) = ended B
@@ -163,24 +160,20 @@ abbrev pub moveEnd : List ℕ → Group → List Group → Move
 moveEnd s G [] = stop (got (treeOf G))
 moveEnd s G (H ∷ K) = stop (bad 8 s)
 
-abbrev pub moveRepeat : Repeat → List ℕ → List ℕ → Group → List Group → Move
-moveRepeat k s u (group A empty) K = stop (bad 2 s)
-moveRepeat k s u (group A (after R X)) K = on u (group A (full (add R (repeated k X)))) K
-moveRepeat k s u (group A (full R)) K = stop (bad 2 s)
-
-abbrev pub moveBrace : List ℕ → Group → Move
-moveBrace s (group A empty) = stop (bad 2 s)
-moveBrace s (group A (after R X)) = stop (bad 3 s)
-moveBrace s (group A (full R)) = stop (bad 2 s)
+-- a repeat sign, legal or not, is 2 where no atom stands right before it
+abbrev pub afterAtom : (Option Tree → Option Tree → Tree → Move) → List ℕ → Group → Move
+afterAtom f s (group A empty) = stop (bad 2 s)
+afterAtom f s (group A (after R X)) = f A R X
+afterAtom f s (group A (full R)) = stop (bad 2 s)
 
 abbrev pub move : Token → List ℕ → Group → List Group → Move
 move (single X u) s G K = on u (more G X) K
-move (repeats k u) s G K = moveRepeat k s u G K
+move (repeats k u) s G K = afterAtom (λ A R X. on u (group A (full (add R (repeated k X)))) K) s G
 move (opens u) s G K = moveOpen (ltb (length K) groupsMost) s u G K
 move (closes u) s G K = moveClose s u G K
 move (parts u) s G K = on u (group (some (treeOf G)) empty) K
 move ends s G K = moveEnd s G K
-move noCount s G K = moveBrace s G
+move noCount s G K = afterAtom (λ A R X. stop (bad 3 s)) s G
 move noClass s G K = stop (bad 4 s)
 move noEscape s G K = stop (bad 5 s)
 move stray s G K = stop (bad 6 s)

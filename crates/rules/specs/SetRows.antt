@@ -11,29 +11,18 @@ use Rattle.rules.specs.Nodes.{Kind, empty, onHead, onTail, onBytes, Edge
 
 -- ---- which edges are crossed
 
+-- empty edges; head edges where h says so, tail edges where t does
+abbrev pub crosses : Bool → Bool → Kind → Bool
+crosses h t empty = true
+crosses h t onHead = h
+crosses h t onTail = t
+crosses h t (onBytes B) = false
+
 abbrev pub onEmpty : Kind → Bool
-onEmpty empty = true
-onEmpty onHead = false
-onEmpty onTail = false
-onEmpty (onBytes B) = false
+onEmpty = crosses false false
 
 abbrev pub orHead : Kind → Bool
-orHead empty = true
-orHead onHead = true
-orHead onTail = false
-orHead (onBytes B) = false
-
-abbrev pub orTail : Kind → Bool
-orTail empty = true
-orTail onHead = false
-orTail onTail = true
-orTail (onBytes B) = false
-
-abbrev pub orEither : Kind → Bool
-orEither empty = true
-orEither onHead = true
-orEither onTail = true
-orEither (onBytes B) = false
+orHead = crosses true false
 
 abbrev pub onByte : ℕ → Kind → Bool
 onByte b empty = false
@@ -90,7 +79,7 @@ next w r b = record { isHead = false; nodes = closure w onEmpty (across (onByte 
 
 -- the nodes reached when tail edges, and for the head row also head edges, are crossed too
 abbrev pub atTheEnd : Machine → SetRow → ℕ
-atTheEnd w r = closure w (elim (r .isHead) [ true ↦ orEither | false ↦ orTail ]) (r .nodes)
+atTheEnd w r = closure w (crosses (r .isHead) true) (r .nodes)
 
 unfoldable pub markOf : Machine → SetRow → ℕ
 markOf w r = elim (has (r .nodes) (w .final)) [ true ↦ 3 | false ↦ elim (has (atTheEnd w r) (w .final)) [ true ↦ 2 | false ↦ 0 ] ]

@@ -8,7 +8,7 @@ use Prim.Native.Nat.{ℕ, zero, suc, _+_, _-_, _*_, _≤_, _<_}
 use lib.Dec.{T, leb, ltb, eqb}
 use lib.ListN.{length, getD, take}
 use lib.Seq.{slice}
-use Rattle.rules.specs.Tools.{upFrom, all, any, kept, last, same}
+use Rattle.rules.specs.Tools.{upFrom, all, any, kept, last}
 use Rattle.rules.specs.Sizes.{rowsMost}
 
 -- R, the head row, and the lent marks and cells, which may go on past the R rows
@@ -17,9 +17,6 @@ pub record Table : Type 0 where
   pub head : ℕ
   pub marks : List ℕ
   pub cells : List ℕ
-
-unfoldable pub sameTable : Table → Table → Bool
-sameTable w v = eqb (w .count) (v .count) && (eqb (w .head) (v .head) && (same (w .marks) (v .marks) && same (w .cells) (v .cells)))
 
 -- ---- the table's rule
 

@@ -15,7 +15,7 @@ use lib.Seq.{getD-set-same, getD-set-other}
 use Rattle.rules.specs.Tools.{has}
 use Rattle.rules.proofs.Sets.{bit, bit-suc, not-bit}
 use Rattle.sets.specs.Sets.{member}
-use Rattle.sets.proofs.SetLaws.{has-or}
+use Rattle.rules.proofs.Sets.{has-or}
 use Rattle.sets.specs.ByteSets.{joined}
 use Rattle.program.specs.Program.{atomBytes}
 use Rattle.sets.proofs.ByteSetLaws.{has-low, has-high, left-test, right-test}

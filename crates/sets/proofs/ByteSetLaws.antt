@@ -3,39 +3,21 @@ use mathlib.Core.Path.{_≡_, refl, sym, ap, _∙_, subst}
 use mathlib.Core.Logic.{_⊎_, inl, inr}
 use mathlib.Core.Bool.{Bool, true, false, _&&_, _||_}
 use mathlib.Core.List.{[], _∷_}
-use Prim.Native.Nat.{ℕ, zero, suc, _+_, _*_, _-_, _/_, _%_, _^_, _≤_, _<_, min, max}
+use Prim.Native.Nat.{ℕ, zero, suc, _+_, _*_, _-_, _/_, _%_, _^_, _≤_, _<_, min}
 use native.Mathlib.Decide.{ℕ-discrete, decLt}
 use native.Mathlib.Nat.{pow-succ', mul-assoc, mul-suc, mul-add, mul-le-mul-left}
 use native.Mathlib.Omega.{arith}
 use lib.Dec.{T, eqb, leb}
 use lib.Pow.{pow-pos, pow-add, pow-mono}
-use lib.Bits.{bitOr, or-shr, or-step, or-lt}
+use lib.Bits.{bitOr, or-lt}
 use borrow.Author.Tests.{le-leb, lt-leb, eq-eqb, ne-eqb}
 use Rattle.rules.specs.Tools.{has, with, withAll, upFrom, range, find}
 use Rattle.rules.specs.Signs.{everyByte, within}
 use Rattle.rules.proofs.Tests.{is-true, within-both}
 use Rattle.sets.specs.ByteSets.{joined, InWord}
-use Rattle.rules.proofs.Sets.{bit, bit-zero, bit-suc, same-members, with-has, with-keeps, with-only, with-lt}
+use Rattle.rules.proofs.Sets.{has-or, bit, bit-zero, bit-suc, same-members, with-has, with-keeps, with-only, with-lt}
 
 -- ---- bits
-
-or-bit : (a b k : ℕ) → bit (bitOr a b) k ≡ max (bit a k) (bit b k)
-or-bit a b k = ap (λ (x : ℕ). x % 2) (or-shr a b k) ∙ last (a / 2 ^ k) (b / 2 ^ k)
-  where
-    last : (x y : ℕ) → bitOr x y % 2 ≡ max (x % 2) (y % 2)
-    last x y = omega (arith, or-step x y)
-
-or-has : (a b k : ℕ) → has (bitOr a b) k ≡ (has a k || has b k)
-or-has a b k = ap (λ (x : ℕ). eqb x 1) (or-bit a b k) ∙ tests (bit a k) (bit b k) (omega arith) (omega arith)
-  where
-    tests : (x y : ℕ) → x < 2 → y < 2 → eqb (max x y) 1 ≡ (eqb x 1 || eqb y 1)
-    tests zero zero p q = refl
-    tests zero (suc zero) p q = refl
-    tests (suc zero) zero p q = refl
-    tests (suc zero) (suc zero) p q = refl
-    tests zero (suc (suc y)) p q = absurd (omega arith)
-    tests (suc zero) (suc (suc y)) p q = absurd (omega arith)
-    tests (suc (suc x)) y p q = absurd (omega arith)
 
 -- a number has no bit above it
 small : (k m : ℕ) → m < 2 ^ k → bit m k ≡ 0
@@ -148,11 +130,11 @@ module _ (lo hi : ℕ) where
   word-adds first a x m q ha hx w r k = go (decLt k 64)
     where
       go : Dec (k < 64) → has (bitOr a x + 2 ^ 64 * q) k ≡ (has (a + 2 ^ 64 * m) k || within lo hi (first + k))
-      go (yes l) = has-low k (bitOr a x) q l ∙ or-has a x k ∙ rw (w k l, has-low k a m l)
+      go (yes l) = has-low k (bitOr a x) q l ∙ has-or a x k ∙ rw (w k l, has-low k a m l)
       go (no n) = let e : k ≡ 64 + (k - 64) = omega arith in rw e (has-high (k - 64) (bitOr a x) q (or-lt 64 a x ha hx) ∙ r (k - 64) ∙ rw (has-high (k - 64) a m ha) (ap (λ (i : ℕ). has m (k - 64) || within lo hi i) (omega arith)))
 
   last-adds : (d x : ℕ) → hi < 256 → x < 2 ^ 64 → InWord lo hi 192 x → Adds 192 d (bitOr d x)
-  last-adds d x h hx w k = or-has d x k ∙ ap (λ (b : Bool). has d k || b) (go (decLt k 64))
+  last-adds d x h hx w k = has-or d x k ∙ ap (λ (b : Bool). has d k || b) (go (decLt k 64))
     where
       go : Dec (k < 64) → has x k ≡ within lo hi (192 + k)
       go (yes l) = w k l

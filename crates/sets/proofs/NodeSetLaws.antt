@@ -10,7 +10,7 @@ use borrow.Author.Count.{below-more}
 use borrow.Author.Tests.{eq-eqb}
 use native.Mathlib.Decide.{ℕ-discrete, decLt}
 use native.Mathlib.Omega.{arith}
-use lib.Bits.{bitAnd, bitOr, bitXor, and-shr, and-mod, and-zero-l, and-zero-r, and-le-l, and-le-r, or-add-and, xor-add-and, xor-self}
+use lib.Bits.{bitAnd, bitOr, bitXor, and-zero-l, and-zero-r, and-le-l, and-le-r, or-add-and, xor-add-and, xor-self}
 use lib.Count.{trailingZeros, under}
 use lib.Dec.{T, eqb, eqb→eq, lit<}
 use lib.ListN.{length, getD, set, take, drop, replicate, length-set, length-drop, drop-of-length-le}
@@ -20,7 +20,7 @@ use Rattle.rules.specs.Tools.{has, with, same}
 use Rattle.rules.specs.Sizes.{wordsARow}
 use Rattle.rules.proofs.Tests.{both-left, both-ways, eq-test, by-test}
 use Rattle.rules.proofs.Lists.{same-eq, same-refl}
-use Rattle.rules.proofs.Sets.{bit, bit-zero, bit-suc, has-bit, bit-has, zero-has, same-members, with-has, with-keeps, with-only, with-lt}
+use Rattle.rules.proofs.Sets.{bit, bit-zero, bit-suc, has-bit, bit-has, zero-has, same-members, with-has, with-keeps, with-only, with-lt, has-and}
 use Rattle.sets.specs.Sets.{member, putIn}
 use Rattle.sets.proofs.SetLaws.{put-long, put-in, put-other}
 use Rattle.sets.specs.NodeSets.{maskOf, rowWords, meets, doubled, TakenOut}
@@ -220,19 +220,6 @@ module _ (ws : List ℕ) (i : ℕ) (li : i < length ws) (ne : getD ws i 0 ≢ 0)
       both-sides x (no n) = mask-has ws x ∙ sym (other x n (ℕ-discrete (x / 64) i)) ∙ sym (mask-has new x) ∙ sym (with-other (maskOf new) v x n)
 
 -- ---- what both have
-
-has-and : (x y k : ℕ) → has (bitAnd x y) k ≡ (has x k && has y k)
-has-and x y k = ap (λ (n : ℕ). eqb (n % 2) 1) (and-shr x y k) ∙ ap (λ (n : ℕ). eqb n 1) (and-mod (x / 2 ^ k) (y / 2 ^ k) 1)
-    ∙ bits (bit x k) (bit y k) (mod-lt (x / 2 ^ k) (omega arith)) (mod-lt (y / 2 ^ k) (omega arith))
-  where
-    bits : (a b : ℕ) → a < 2 → b < 2 → eqb (bitAnd a b) 1 ≡ (eqb a 1 && eqb b 1)
-    bits zero zero l m = refl
-    bits zero (suc zero) l m = refl
-    bits (suc zero) zero l m = refl
-    bits (suc zero) (suc zero) l m = refl
-    bits (suc (suc a)) b l m = absurd (omega arith)
-    bits zero (suc (suc b)) l m = absurd (omega arith)
-    bits (suc zero) (suc (suc b)) l m = absurd (omega arith)
 
 pub getD-meets : (a b : List ℕ) (i : ℕ) → getD (meets a b) i 0 ≡ bitAnd (getD a i 0) (getD b i 0)
 unfolding meets

@@ -3,33 +3,20 @@ use mathlib.Core.Path.{_≡_, refl, sym, ap, ap₂, _∙_}
 use mathlib.Core.Logic.{_≢_}
 use mathlib.Core.Bool.{Bool, true, false, _||_}
 use mathlib.Core.List.{List}
-use Prim.Native.Nat.{ℕ, zero, suc, _+_, _*_, _-_, _/_, _%_, _^_, _≤_, _<_}
-use native.Mathlib.Nat.{div-self, div-eq-of-lt, mul-mod-left, pow-suc, mod-lt}
+use Prim.Native.Nat.{ℕ, suc, _+_, _*_, _-_, _/_, _%_, _^_, _≤_, _<_}
+use native.Mathlib.Nat.{div-self, div-eq-of-lt, mul-mod-left, pow-suc}
 use native.Mathlib.Decide.{ℕ-discrete, decLt}
 use native.Mathlib.Omega.{arith}
-use lib.Bits.{bitOr, or-shr, or-mod}
+use lib.Bits.{bitOr}
 use lib.Dec.{eqb}
 use lib.ListN.{length, getD, set, replicate, length-set, length-replicate, getD-replicate, List·getD-eq-default}
 use lib.Pow.{pow-pos, pow-lt, pow-add, shl-shr}
 use lib.Seq.{getD-set-same, getD-set-other}
 use Rattle.rules.specs.Tools.{has}
+use Rattle.rules.proofs.Sets.{has-or}
 use Rattle.sets.specs.Sets.{member, putIn, AllIn}
 
 -- ---- one word
-
--- a bit of either is a bit of both joined
-pub has-or : (w v k : ℕ) → has (bitOr w v) k ≡ (has w k || has v k)
-has-or w v k = ap (λ (n : ℕ). eqb (n % 2) 1) (or-shr w v k) ∙ ap (λ (n : ℕ). eqb n 1) (or-mod (w / 2 ^ k) (v / 2 ^ k) 1)
-    ∙ bits (w / 2 ^ k % 2) (v / 2 ^ k % 2) (mod-lt (w / 2 ^ k) (omega arith)) (mod-lt (v / 2 ^ k) (omega arith))
-  where
-    bits : (x y : ℕ) → x < 2 → y < 2 → eqb (bitOr x y) 1 ≡ (eqb x 1 || eqb y 1)
-    bits zero zero a b = refl
-    bits zero (suc zero) a b = refl
-    bits (suc zero) zero a b = refl
-    bits (suc zero) (suc zero) a b = refl
-    bits (suc (suc x)) y a b = absurd (omega arith)
-    bits zero (suc (suc y)) a b = absurd (omega arith)
-    bits (suc zero) (suc (suc y)) a b = absurd (omega arith)
 
 -- a power of two has one bit
 power-has : (k : ℕ) → has (2 ^ k) k ≡ true

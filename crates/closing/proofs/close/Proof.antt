@@ -6,13 +6,14 @@ use lib.Dec.{T}
 use lib.ListN.{length}
 use Rattle.rules.specs.Tools.{has}
 use Rattle.sets.specs.NodeSets.{maskOf}
-use Rattle.closing.specs.Closing.{crossing, ways, closing, Full, Sweep, left}
+use Rattle.rules.specs.SetRows.{crosses}
+use Rattle.closing.specs.Closing.{ways, closing, Full, Sweep, left}
 use Rattle.closing.proofs.Sweeps.{closing-full, sweep-start, sweep-end}
 use Rattle.closing.proofs.close.Statement.{statement}
 use Rattle.closing.proofs.close.Tie as tie
 
 abbrev Inv-loop : tie.InvT-loop
-Inv-loop set₀ pending₀ kind to1 to2 head tail i₀ set pending i = (length set ≡ length set₀) × ((length pending ≡ length set₀) × ((i ≤ length set₀) × ((maskOf set < 2 ^ length kind) × ((maskOf pending < 2 ^ length kind) × (Full (crossing head tail) (ways kind to1 to2) (closing head tail kind to1 to2 (maskOf set₀)) × Sweep (crossing head tail) (ways kind to1 to2) (maskOf set₀) (closing head tail kind to1 to2 (maskOf set₀)) (λ v. T (has (maskOf pending) v)) (maskOf set) (maskOf pending) i)))))
+Inv-loop set₀ pending₀ kind to1 to2 head tail i₀ set pending i = (length set ≡ length set₀) × ((length pending ≡ length set₀) × ((i ≤ length set₀) × ((maskOf set < 2 ^ length kind) × ((maskOf pending < 2 ^ length kind) × (Full (crosses head tail) (ways kind to1 to2) (closing head tail kind to1 to2 (maskOf set₀)) × Sweep (crosses head tail) (ways kind to1 to2) (maskOf set₀) (closing head tail kind to1 to2 (maskOf set₀)) (λ v. T (has (maskOf pending) v)) (maskOf set) (maskOf pending) i)))))
 
 abbrev μ-loop : tie.MeasureT-loop
 μ-loop set₀ pending₀ kind to1 to2 head tail i₀ set pending i = left (length kind) (length set₀) (maskOf set) (maskOf pending) i

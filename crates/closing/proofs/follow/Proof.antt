@@ -5,14 +5,15 @@ use native.Mathlib.Omega.{arith}
 use lib.ListN.{length}
 use Rattle.rules.proofs.Tests.{is-true, is-false}
 use Rattle.sets.specs.NodeSets.{maskOf}
-use Rattle.closing.specs.Closing.{crossing, ways, Onward}
+use Rattle.rules.specs.SetRows.{crosses}
+use Rattle.closing.specs.Closing.{ways, Onward}
 use Rattle.closing.proofs.Ways.{leads-two, leads-nowhere}
 use Rattle.closing.proofs.Sweeps.{OrNode, onward-none, onward-then, onward-stop, one-low, two-low, onward-last, onward-on}
 use Rattle.closing.proofs.follow.Statement.{statement}
 use Rattle.closing.proofs.follow.Tie as tie
 
 abbrev Inv-loop : tie.InvT-loop
-Inv-loop set₀ pending₀ kind to1 to2 head tail at u₀ i₀ set pending u i = (length set ≡ length set₀) × ((length pending ≡ length set₀) × ((u .0 < length kind) × Onward (crossing head tail) (ways kind to1 to2) (length kind) (OrNode (maskOf pending₀) (u₀ .0)) (maskOf set₀) (maskOf pending₀) at (OrNode (maskOf pending) (u .0)) (maskOf set) (maskOf pending) i))
+Inv-loop set₀ pending₀ kind to1 to2 head tail at u₀ i₀ set pending u i = (length set ≡ length set₀) × ((length pending ≡ length set₀) × ((u .0 < length kind) × Onward (crosses head tail) (ways kind to1 to2) (length kind) (OrNode (maskOf pending₀) (u₀ .0)) (maskOf set₀) (maskOf pending₀) at (OrNode (maskOf pending) (u .0)) (maskOf set) (maskOf pending) i))
 
 abbrev μ-loop : tie.MeasureT-loop
 μ-loop set₀ pending₀ kind to1 to2 head tail at u₀ i₀ set pending u i = 2 ^ length kind - maskOf set

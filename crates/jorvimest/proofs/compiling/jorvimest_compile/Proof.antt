@@ -5,19 +5,14 @@ use Rattle.jorvimest.proofs.compiling.jorvimest_compile.Tie as tie
 
 returns : tie.Need-returns
 returns c =
-    let made = c .before .before .before .before .before .before .before .before .before .before .before .before .before .compile .ensures in
-    let answer = made .answer in (
-      cc (c .compile-code .ensures, answer),
-      (cc (c .before .before .before .before .before .compile-rows .ensures, answer), (cc (c .before .before .before .compile-head .ensures, answer), (cc (c .before .compile-place .ensures, answer), made .room))),
-    )
+    let made = c .before .before .before .before .before .before .before .before .before .before .compile .ensures in
+    let put = rw (made .answer) at (c .put-compiled .ensures) in
+    (put .0, (put .1 .0, (put .1 .1 .0, (put .1 .1 .1, made .room))))
 
 pub jorvimest-compile-spec : {M : Type 1} → statement M
 jorvimest-compile-spec =
     tie.close
     (tie.spec
-    (λ c κs. search needs)
-    (λ c κs. search needs)
-    (λ c κs. search needs)
     (λ c κs. search needs)
     (λ c κs. search needs)
     (λ c. search needs)

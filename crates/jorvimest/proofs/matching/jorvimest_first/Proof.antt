@@ -4,16 +4,12 @@ use Rattle.jorvimest.proofs.matching.jorvimest_first.Statement.{stateme
 use Rattle.jorvimest.proofs.matching.jorvimest_first.Tie as tie
 
 returns : tie.Need-returns
-returns c =
-    let answer = c .before .before .before .before .before .first .ensures in
-    (cc (c .first-code .ensures, answer), (cc (c .before .before .before .first-start .ensures, answer), cc (c .before .first-end .ensures, answer)))
+returns c = rw (c .before .before .before .first .ensures) at (c .put-first .ensures)
 
 pub jorvimest-first-spec : {M : Type 1} → statement M
 jorvimest-first-spec =
     tie.close
     (tie.spec
-    (λ c κs. search needs)
-    (λ c κs. search needs)
     (λ c κs. search needs)
     (λ c κs. search needs)
     returns)

@@ -4,14 +4,12 @@ use Rattle.jorvimest.proofs.matching.jorvimest_longest.Statement.{state
 use Rattle.jorvimest.proofs.matching.jorvimest_longest.Tie as tie
 
 returns : tie.Need-returns
-returns c =
-    let answer = c .before .before .before .longest .ensures in
-    (cc (c .longest-code .ensures, answer), cc (c .before .longest-end .ensures, answer))
+returns c = rw (c .before .before .longest .ensures) at (c .put-longest .ensures)
 
 pub jorvimest-longest-spec : {M : Type 1} → statement M
 jorvimest-longest-spec =
-    tie.close (tie.spec
-    (λ c κs. search needs)
+    tie.close
+    (tie.spec
     (λ c κs. search needs)
     (λ c κs. search needs)
     returns)

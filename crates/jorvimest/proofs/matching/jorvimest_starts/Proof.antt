@@ -7,16 +7,14 @@ use Rattle.jorvimest.proofs.matching.jorvimest_starts.Tie as tie
 
 returns : tie.Need-returns
 returns c =
-    let answer = c .before .before .before .before .before .starts .ensures in (
-      cc (c .starts-code .ensures, ap (λ (o : Listed). o .answer) answer),
-      (cc (c .before .starts-count .ensures, ap (λ (o : Listed). o .answer) answer), ap (λ (o : Listed). o .list) answer),
-    )
+    let listed = c .before .before .before .before .starts .ensures in
+    let put = rw (ap (λ (o : Listed). o .answer) listed) at (c .put-starts .ensures) in
+    (put .0, (put .1, ap (λ (o : Listed). o .list) listed))
 
 pub jorvimest-starts-spec : {M : Type 1} → statement M
 jorvimest-starts-spec =
     tie.close
     (tie.spec
-    (λ c κs. search needs)
     (λ c κs. search needs)
     (λ c κs. search needs)
     (λ c. search needs)

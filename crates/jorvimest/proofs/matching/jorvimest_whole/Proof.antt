@@ -4,10 +4,12 @@ use Rattle.jorvimest.proofs.matching.jorvimest_whole.Statement.{stateme
 use Rattle.jorvimest.proofs.matching.jorvimest_whole.Tie as tie
 
 returns : tie.Need-returns
-returns c = cc (c .whole-code .ensures, c .before .whole .ensures)
+returns c = rw (c .before .whole .ensures) at (c .whole-code .ensures)
 
 pub jorvimest-whole-spec : {M : Type 1} → statement M
-jorvimest-whole-spec = tie.close (tie.spec
+jorvimest-whole-spec =
+    tie.close
+    (tie.spec
     (λ c κs. search needs)
     (λ c κs. search needs)
     returns)

@@ -6,14 +6,14 @@ use Rattle.jorvimest.proofs.texts.jorvimest_listing.Tie as tie
 
 returns : tie.Need-returns
 returns c =
-    let w = c .before .before .before .before .before .write-table in
-    text-numbers (w .result) _ (w .ensures) (c .text-code .ensures) (c .before .text-length .ensures)
+    let w = c .before .before .before .before .write-table in
+    let put = c .put-text .ensures in
+    text-numbers (w .result) _ (w .ensures) (put .0) (put .1)
 
 pub jorvimest-listing-spec : {M : Type 1} → statement M
 jorvimest-listing-spec =
     tie.close
     (tie.spec
-    (λ c κs. search needs)
     (λ c κs. search needs)
     (λ c κs. search needs)
     (λ c. search needs)

@@ -1,17 +1,21 @@
 -- "Sums worked on paper": the starred ones, as questions about a pattern and what the paper says.
 use mathlib.Core.Path.{_≡_}
-use mathlib.Core.Bool.{Bool, true, false}
+use mathlib.Core.Bool.{Bool, true, false, _&&_}
 use mathlib.Core.List.{List, [], _∷_}
 use mathlib.Core.Option.{Option, none, some}
 use Prim.Native.Nat.{ℕ, _<_}
 use Prim.Native.String.{String}
+use lib.Dec.{eqb}
 use lib.ListN.{length, getD}
-use Rattle.rules.specs.Tools.{bytesOf}
+use Rattle.rules.specs.Tools.{same, bytesOf}
 use Rattle.rules.specs.Tree.{Tree}
 use Rattle.rules.specs.SetRows.{rowCount}
-use Rattle.rules.specs.Table.{Table, sameTable, cell, longest, starts}
+use Rattle.rules.specs.Table.{Table, cell, longest, starts}
 use Rattle.rules.specs.Compiled.{compiled}
 use Rattle.rules.specs.Reader.{got, bad, read}
+
+unfoldable pub sameTable : Table → Table → Bool
+sameTable w v = eqb (w .count) (v .count) && (eqb (w .head) (v .head) && (same (w .marks) (v .marks) && same (w .cells) (v .cells)))
 
 pub data Question : Type 0 where
   setRows : Question  -- S

@@ -5,14 +5,14 @@ use mathlib.Core.List.{List, [], map}
 use Prim.Native.Nat.{ℕ}
 use lib.Dec.{T, eqb, eqb→eq}
 use lib.ListN.{getD}
 use Rattle.rules.specs.Tools.{same}
 use Rattle.rules.specs.SetRows.{setRows as allRows, rowCount, machine, next, inside, headRow, markOf, targets}
-use Rattle.rules.specs.Table.{Table, sameTable, longest, starts, takes}
+use Rattle.rules.specs.Table.{Table, longest, starts, takes}
 use Rattle.rules.specs.Compiled.{classes, merged, compiled, cellsOf}
 use Rattle.rules.specs.Reader.{escape, number, count, namedClass, member, item, items, class, token, run, read}
-use Rattle.rules.specs.Sums.{Sum, sum, sums, setRows, answerTo, SumsHold}
 use Rattle.rules.proofs.Tests.{both-left, both-right}
 use Rattle.rules.proofs.Lists.{getD-map-in, same-eq}
+use Rattle.starred.specs.Sums.{Sum, sum, sums, sameTable, setRows, answerTo, SumsHold}
 
 asked : Sum → List ℕ
 asked x = answerTo (x .pattern) (x .question)
