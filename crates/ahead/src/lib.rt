@@ -7,6 +7,7 @@ ghost use lib.ListN.{drop};
 ghost use Rattle.rules.specs.Table.{begins, WellFormed};
 ghost use Rattle.table.specs.Lent.{tableOf};
 ghost use Rattle.ahead.specs.Ahead.{lent, Stuck, Ready, Flags, Stretch, Walked};
+use kinds::ROWS;
 use kinds::Row;
 
 // What is known of a table's rows: how many, the head row, and a row that no match comes after (`count` where none is known).
@@ -69,7 +70,7 @@ pub fn look(
     cells: &[u16],
     marks: &[u8],
     text: &[u8],
-    flags: &[u8; 1024],
+    flags: &[u8; ROWS],
     q: Row,
     from: usize,
     to: usize,
@@ -104,12 +105,12 @@ pub fn look(
 }
 
 // The flags at the text's end.
-pub fn flags_at_end(rows: Rows, cells: &[u16], marks: &[u8]) -> [u8; 1024]
+pub fn flags_at_end(rows: Rows, cells: &[u16], marks: &[u8]) -> [u8; ROWS]
     requires { ⌜ WellFormed (lent rows (now marks) (now cells)) ⌝ }
     ensures { λ r. ⌜ Flags (lent rows (now (marks .entry)) (now (cells .entry))) [] r ⌝ }
 {
     let n = rows.count as usize;
-    let mut flags = [0u8; 1024];
+    let mut flags = [0u8; ROWS];
     let mut q: usize = 0;
     while q < n {
         flags[q] = table::ends_here(marks[q], true) as u8;
@@ -124,16 +125,16 @@ pub fn flags_before(
     cells: &[u16],
     marks: &[u8],
     text: &[u8],
-    flags: &[u8; 1024],
+    flags: &[u8; ROWS],
     from: usize,
     to: usize,
-) -> [u8; 1024]
+) -> [u8; ROWS]
     requires { ⌜ Ready (lent rows (now marks) (now cells)) (now text) (rows .dead .0) ⌝ }
     requires { ⌜ Stretch (lent rows (now marks) (now cells)) (now text) (now flags) 0 from to ⌝ }
     ensures { λ r. ⌜ Flags (lent rows (now (marks .entry)) (now (cells .entry))) (drop from (now (text .entry))) r ⌝ }
 {
     let n = rows.count;
-    let mut earlier = [0u8; 1024];
+    let mut earlier = [0u8; ROWS];
     let mut q: u16 = 0;
     while q < n {
         let walk = look(rows, cells, marks, text, flags, Row(q), from, to);

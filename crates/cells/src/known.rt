@@ -50,7 +50,7 @@ fn bucket(words: &[u64]) -> usize
         h = mix_in(h, i, words[i]);
         i += 1;
     }
-    (mix(h) / 4294967296 % 1024) as usize
+    (mix(h) / 4294967296) as usize % BUCKETS
 }
 
 // The search for a known set, from the greatest row of its bucket down, yields its row by break.

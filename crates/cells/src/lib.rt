@@ -8,9 +8,6 @@ ghost use Rattle.closing.specs.Closing.{Nodes, Wide};
 ghost use Rattle.cells.specs.Known.{Book, Took};
 ghost use Rattle.runs.specs.Runs.{Starts};
 ghost use Rattle.cells.specs.Cells.{takenAt, seedsOf, nodesOf, putRun, FilledAs};
-
-pub mod known;
-
 use crate::known::Got;
 use crate::known::take_in;
 use closing::close;
@@ -21,6 +18,8 @@ use sets::node_set::copy;
 use sets::node_set::meet;
 use sets::node_set::nodes_after;
 use sets::node_set::put_in;
+
+pub mod known;
 
 // How many rows there are after a row is filled; or that there is no room for another.
 pub enum Filled {

@@ -8,9 +8,6 @@ ghost use Rattle.rules.specs.Tools.{has};
 ghost use Rattle.sets.specs.NodeSets.{maskOf};
 ghost use Rattle.rules.specs.SetRows.{crosses};
 ghost use Rattle.closing.specs.Closing.{ways, Nodes, Wide, closing, targetsOf, Added, FullBut, Onward, Advanced};
-
-pub mod marks;
-
 use entries::EMPTY;
 use entries::HEAD;
 use entries::TAIL;
@@ -18,6 +15,8 @@ use kinds::Node;
 use sets::node_set::is_in;
 use sets::node_set::put_in;
 use sets::node_set::take_out;
+
+pub mod marks;
 
 // The targets of the edges of a node that are crossed.
 enum Targets {

@@ -2,7 +2,7 @@
 ghost use mathlib.Core.Path.{_≡_};
 ghost use Rattle.rows.specs.Rows.{SomeNodes, room};
 ghost use Rattle.compile.specs.Outcomes.{keptRows, SomeProgram, DrewNodes, DrewProgram, Drew, Compiles};
-use entries::NODES;
+use kinds::NODES;
 use kinds::Refusal;
 use kinds::Row;
 use merge::merge;

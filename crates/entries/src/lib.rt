@@ -2,11 +2,9 @@
 ghost use Prim.Native.Nat.{_<_};
 ghost use Rattle.rules.specs.Sizes.{nodesMost};
 ghost use Rattle.entries.specs.Entries.{lists, Room, Puts, NextOf, Links};
+use kinds::NODES;
 use kinds::NODES_MOST;
 use kinds::Node;
-
-// The length of each list of nodes.
-pub const NODES: usize = NODES_MOST as usize;
 
 // A node's kind: empty edges, a head edge, a tail edge, an edge on the bytes of an atom; any other has no edge.
 pub const EMPTY: u8 = 1;

@@ -7,6 +7,7 @@ ghost use Rattle.ahead.specs.Ahead.{lent, Ready};
 ghost use Rattle.first.specs.Run.{foundOf, firstFrom, outcome, Kept, Joined, Opened, Carried, Advanced};
 use ahead::Rows;
 use ahead::begin;
+use kinds::ROWS;
 use kinds::Row;
 
 // A match, or none.
@@ -24,9 +25,9 @@ pub struct Step {
 // A row with its start joins the list, unless an earlier start has led to the row: then it has the stamp.
 fn join(
     known: Rows,
-    rows: &mut [u16; 1024],
-    froms: &mut [u32; 1024],
-    stamps: &mut [u32; 1024],
+    rows: &mut [u16; ROWS],
+    froms: &mut [u32; ROWS],
+    stamps: &mut [u32; ROWS],
     len: usize,
     q: Row,
     from: u32,
@@ -52,9 +53,9 @@ fn open_at(
     cells: &[u16],
     marks: &[u8],
     text: &[u8],
-    rows: &mut [u16; 1024],
-    froms: &mut [u32; 1024],
-    stamps: &mut [u32; 1024],
+    rows: &mut [u16; ROWS],
+    froms: &mut [u32; ROWS],
+    stamps: &mut [u32; ROWS],
     len: usize,
     best: Found,
     p: usize,
@@ -78,9 +79,9 @@ fn carry(
     cells: &[u16],
     marks: &[u8],
     text: &[u8],
-    rows: &mut [u16; 1024],
-    froms: &mut [u32; 1024],
-    stamps: &mut [u32; 1024],
+    rows: &mut [u16; ROWS],
+    froms: &mut [u32; ROWS],
+    stamps: &mut [u32; ROWS],
     kept: usize,
     q: Row,
     from: u32,
@@ -105,9 +106,9 @@ fn advance(
     cells: &[u16],
     marks: &[u8],
     text: &[u8],
-    rows: &mut [u16; 1024],
-    froms: &mut [u32; 1024],
-    stamps: &mut [u32; 1024],
+    rows: &mut [u16; ROWS],
+    froms: &mut [u32; ROWS],
+    stamps: &mut [u32; ROWS],
     len: usize,
     best: Found,
     p: usize,
@@ -154,9 +155,9 @@ fn close_at_end(
     cells: &[u16],
     marks: &[u8],
     text: &[u8],
-    rows: &[u16; 1024],
-    froms: &[u32; 1024],
-    stamps: &[u32; 1024],
+    rows: &[u16; ROWS],
+    froms: &[u32; ROWS],
+    stamps: &[u32; ROWS],
     len: usize,
     best: Found,
 ) -> Found
@@ -181,9 +182,9 @@ pub fn read_on(known: Rows, cells: &[u16], marks: &[u8], text: &[u8], from: usiz
     requires { ⌜ from ≤ length (now text) ⌝ }
     ensures { λ r. ⌜ foundOf r ≡ firstFrom (lent known (now (marks .entry)) (now (cells .entry))) (now (text .entry)) from ⌝ }
 {
-    let mut rows = [0u16; 1024];
-    let mut froms = [0u32; 1024];
-    let mut stamps = [0u32; 1024];
+    let mut rows = [0u16; ROWS];
+    let mut froms = [0u32; ROWS];
+    let mut stamps = [0u32; ROWS];
     let mut len: usize = 0;
     let mut best = Found::Nothing;
     let mut p = from;

@@ -26,6 +26,11 @@ pub const WORDS_A_ROW: usize = 32;
 // Bytes of a text.
 pub const TEXT_MOST: usize = 1048576;
 
+// Lengths of lists with a place for each node, and for each row.
+pub const NODES: usize = NODES_MOST as usize;
+
+pub const ROWS: usize = ROWS_MOST as usize;
+
 // The sizes side by side.
 struct Sizes {
     pattern: usize,

@@ -5,9 +5,9 @@ ghost use Rattle.rules.specs.Grid.{Grid};
 ghost use Rattle.rules.specs.Compiled.{merged};
 ghost use Rattle.parting.specs.Room.{rowsOf, Room};
 ghost use Rattle.merge.specs.Merge.{Lent, Stands};
+use kinds::ROWS;
 use kinds::Row;
 use round::grid::ROW_WORDS;
-use round::grid::ROWS;
 
 mod lower;
 mod numbers;

@@ -6,8 +6,8 @@ ghost use Rattle.nodes.specs.Built.{BuildsTree};
 mod fragment;
 
 use entries::Entry;
-use entries::NODES;
 use entries::Step;
+use kinds::NODES;
 use kinds::Node;
 
 // The number of nodes; or refusal 10.

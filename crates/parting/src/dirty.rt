@@ -6,8 +6,8 @@ ghost use lib.ListN.{length, replicate};
 ghost use Rattle.rules.specs.Sizes.{rowsMost};
 ghost use Rattle.sets.specs.Sets.{member};
 ghost use Rattle.parting.specs.Dirty.{rowWords, AfterRound, Below, Stayed, Noted};
+use kinds::ROWS;
 use round::grid::ROW_WORDS;
-use round::grid::ROWS;
 use sets;
 
 // Every row is dirty.

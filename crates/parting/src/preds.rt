@@ -4,7 +4,7 @@ ghost use Prim.Native.Nat.{ℕ, _*_, _<_};
 ghost use lib.ListN.{length};
 ghost use Rattle.round.specs.Rounds.{Rows};
 ghost use Rattle.parting.specs.Dirty.{rowWords, Grown, RowListed};
-use round::grid::ROWS;
+use kinds::ROWS;
 use round::grid::goes_to;
 use sets;
 

@@ -2,10 +2,10 @@
 ghost use mathlib.Core.Path.{_≡_};
 ghost use Prim.Native.Nat.{_+_, _≤_, _<_};
 ghost use lib.ListN.{length};
+ghost use Rattle.rules.specs.Signs.{dotBytes};
 ghost use Rattle.sets.specs.ByteSets.{bytesOf};
 ghost use Rattle.program.specs.Program.{operationOf, atomBytes, AtomAt, Puts, PutsClass};
 use sets::byte_set::ByteSet;
-use sets::byte_set::dot_bytes;
 use signs::count::Repeat;
 
 pub enum Op {
@@ -85,6 +85,13 @@ pub fn put_class(program: &mut [u64], n: usize, set: ByteSet)
     program[n + 2] = set.2;
     program[n + 3] = set.3;
     program[n + 4] = word_of(Op::Class);
+}
+
+// What `.` stands for.
+fn dot_bytes() -> ByteSet
+    ensures { λ r. ⌜ bytesOf r ≡ dotBytes ⌝ }
+{
+    ByteSet(u64::MAX, u64::MAX, u64::MAX, u64::MAX)
 }
 
 // The bytes of the atom whose operation stands at `at`: a byte, `.` or a class.

@@ -3,10 +3,8 @@ ghost use mathlib.Core.Path.{_≡_};
 ghost use Prim.Native.Nat.{_+_, _*_, _<_};
 ghost use lib.ListN.{getD};
 ghost use Rattle.round.specs.Rounds.{Rows};
-use kinds::ROWS_MOST;
+use kinds::ROWS;
 
-// Places for a number of each row.
-pub const ROWS: usize = ROWS_MOST as usize;
 // Words for a set of rows.
 pub const ROW_WORDS: usize = ROWS / 64;
 

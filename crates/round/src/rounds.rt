@@ -3,8 +3,8 @@ ghost use mathlib.Core.Path.{_≡_};
 ghost use Prim.Native.Nat.{_+_, _*_, _≤_, _<_};
 ghost use lib.ListN.{length};
 ghost use Rattle.round.specs.Rounds.{Given, Names, Tells, Parted, Found, Round, Quiet, Firsts, Follows};
-use crate::grid::ROWS;
 use crate::grid::goes_to;
+use kinds::ROWS;
 use kinds::ROWS_MOST;
 use sets;
 

@@ -14,7 +14,7 @@ use cells::take_up;
 use closing::marks::mark_of;
 use closing::marks::put_tails;
 use kinds::Node;
-use kinds::ROWS_MOST;
+use kinds::ROWS;
 use kinds::WORDS_A_ROW;
 use runs::make_runs;
 
@@ -99,7 +99,7 @@ fn list_all(
     let mut pending = [0u64; WORDS_A_ROW];
     let mut tails = [0u64; WORDS_A_ROW];
     let mut heads = [0u16; BUCKETS];
-    let mut nexts = [0u16; ROWS_MOST as usize];
+    let mut nexts = [0u16; ROWS];
     put_tails(&mut tails[..w], kind);
     let mut rows: usize = 2;
     let mut q: usize = 0;
@@ -159,7 +159,7 @@ pub fn list_rows(
     ensures { λ r. ⌜ Lists (now (program .entry)) (now (kind .entry)) (now (to1 .entry)) (now (to2 .entry)) (now (atom .entry)) (lent.room (now (cells .entry)) (now (marks .entry)) (now (sets .entry))) (lent.room (now (cells .exit)) (now (marks .exit)) (now (sets .exit))) r ⌝ }
 {
     let room = least(
-        ROWS_MOST as usize,
+        ROWS,
         least(
             cells.len() / 256,
             least(marks.len(), sets.len() / WORDS_A_ROW),

@@ -9,6 +9,7 @@ use entries::BYTES;
 use kinds::Node;
 use kinds::WORDS_A_ROW;
 use program::atom_set;
+use sets::TOP_BIT;
 use sets::byte_set::ByteSet;
 use sets::node_set::put_in;
 
@@ -17,7 +18,7 @@ fn changes(word: u64, below: u64) -> u64
     requires { ⌜ below < 2 ⌝ }
     ensures { λ r. ⌜ Changes word below r ⌝ }
 {
-    word ^ (word % 9223372036854775808 * 2 + below)
+    word ^ (word % TOP_BIT * 2 + below)
 }
 
 // Marks each byte that the set parts from the byte before it.
@@ -26,9 +27,9 @@ fn part_by(parted: &mut [u64], set: ByteSet)
     ensures { λ _. ⌜ PartedBy (now (parted .entry)) (now (parted .exit)) (bytesOf set) ⌝ }
 {
     parted[0] = parted[0] | changes(set.0, 0);
-    parted[1] = parted[1] | changes(set.1, set.0 / 9223372036854775808);
-    parted[2] = parted[2] | changes(set.2, set.1 / 9223372036854775808);
-    parted[3] = parted[3] | changes(set.3, set.2 / 9223372036854775808);
+    parted[1] = parted[1] | changes(set.1, set.0 / TOP_BIT);
+    parted[2] = parted[2] | changes(set.2, set.1 / TOP_BIT);
+    parted[3] = parted[3] | changes(set.3, set.2 / TOP_BIT);
 }
 
 // Marks each byte that some node's atom parts from the byte before it.

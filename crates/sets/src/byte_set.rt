@@ -4,17 +4,10 @@ ghost use Prim.Native.Nat.{_-_, _^_, _≤_, min};
 ghost use lib.Dec.{eqb};
 ghost use Rattle.rules.specs.Tools as sets;
 ghost use Rattle.rules.specs.Tools.{range, withAll};
-ghost use Rattle.rules.specs.Signs.{everyByte, dotBytes};
+ghost use Rattle.rules.specs.Signs.{everyByte};
 ghost use Rattle.sets.specs.ByteSets.{bytesOf, wordOf, InWord};
 
 pub struct ByteSet(pub u64, pub u64, pub u64, pub u64);
-
-// What `.` stands for.
-pub fn dot_bytes() -> ByteSet
-    ensures { λ r. ⌜ bytesOf r ≡ dotBytes ⌝ }
-{
-    ByteSet(u64::MAX, u64::MAX, u64::MAX, u64::MAX)
-}
 
 // The bits below n, of which a word has 64.
 fn bits_below(n: u16) -> u64

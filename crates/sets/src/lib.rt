@@ -1,4 +1,4 @@
-// Sets of numbers in lent words of 64 bits: x is in if bit x % 64 of word x / 64 is 1. So are sets of nodes; a set of bytes is a value.
+// Sets of numbers, and of nodes, in lent words of 64 bits: x is in if bit x % 64 of word x / 64 is 1. Sets of bytes by value.
 ghost use mathlib.Core.Path.{_≡_};
 ghost use Prim.Native.Nat.{_+_, _*_, _≤_, _<_};
 ghost use lib.ListN.{length, replicate};
@@ -6,6 +6,9 @@ ghost use Rattle.sets.specs.Sets.{member, putIn, AllIn};
 
 pub mod byte_set;
 pub mod node_set;
+
+// The highest bit of a word.
+pub const TOP_BIT: u64 = 9223372036854775808;
 
 // Whether x is in.
 pub fn test(set: &[u64], x: usize) -> bool

@@ -5,6 +5,7 @@ ghost use lib.ListN.{length, getD};
 ghost use Rattle.rules.specs.Tools.{has, with};
 ghost use Rattle.rules.specs.Tools as tools;
 ghost use Rattle.sets.specs.NodeSets.{maskOf, meets, doubled, TakenOut};
+use crate::TOP_BIT;
 use kinds::Node;
 
 pub fn is_in(set: &[u64], v: Node) -> bool
@@ -64,8 +65,8 @@ pub fn nodes_after(out: &mut [u64], set: &[u64])
     let mut i: usize = 0;
     while i < set.len() {
         let word = set[i];
-        out[i] = word % 9223372036854775808 * 2 + carry;
-        carry = word / 9223372036854775808;
+        out[i] = word % TOP_BIT * 2 + carry;
+        carry = word / TOP_BIT;
         i += 1;
     }
 }

@@ -11,6 +11,7 @@ use ahead::begin;
 use ahead::flags_at_end;
 use ahead::flags_before;
 use ahead::look;
+use kinds::ROWS;
 
 // Whether a start has a match; the place `to` whose flags are kept, and how many bytes walks have read since they were made.
 pub struct Look {
@@ -26,7 +27,7 @@ fn look_back(
     cells: &[u16],
     marks: &[u8],
     text: &[u8],
-    flags: &mut [u8; 1024],
+    flags: &mut [u8; ROWS],
     to: usize,
     spent: usize,
     s: usize,

@@ -10,31 +10,24 @@ Inv-loop rows head cells marks q₀ q = q ≤ rows
 abbrev μ-loop : tie.MeasureT-loop
 μ-loop rows head cells marks q₀ q = rows - q
 
--- src/lib.rt:50:5
 loop-holds : tie.Need-loop-holds Inv-loop μ-loop
 loop-holds c = search needs
 
--- src/lib.rt:51:12
 stuck-requires : tie.Need-stuck-requires Inv-loop μ-loop
 stuck-requires c κs = (c .before .before .before .before .pre, search needs)
 
--- src/lib.rt:52:13
 returns : tie.Need-returns Inv-loop μ-loop
 returns c = λ l. c .before .stuck .ensures (c .if1 .taken)
 
--- src/lib.rt:54:9
 add-q : tie.Need-add-q Inv-loop μ-loop
 add-q c = search needs
 
--- src/lib.rt:50:5
 loop-less : tie.Need-loop-less Inv-loop μ-loop
 loop-less c = search needs
 
--- src/lib.rt:50:5
 loop-again : tie.Need-loop-again Inv-loop μ-loop
 loop-again c = search needs
 
--- src/lib.rt:45:1
 returns-2 : tie.Need-returns-2 Inv-loop μ-loop
 returns-2 c = λ l. absurd (omega arith)
 

@@ -17,45 +17,35 @@ Inv-loop cells marks n flags₀ q₀ flags q = (q ≤ n) × ((length flags ≡ 1
 abbrev μ-loop : tie.MeasureT-loop
 μ-loop cells marks n flags₀ q₀ flags q = n - q
 
--- src/lib.rt:106:13
 cast-n : tie.Need-cast-n Inv-loop μ-loop
 cast-n c = search needs
 
--- src/lib.rt:109:5
 loop-holds : tie.Need-loop-holds Inv-loop μ-loop
 loop-holds c = (search needs, (refl, λ k l. absurd (omega arith)))
 
--- src/lib.rt:110:37
 shared-slice-read-ends-here : tie.Need-shared-slice-read-ends-here Inv-loop μ-loop
 shared-slice-read-ends-here c = search needs
 
--- src/lib.rt:110:20
 ends-here-requires : tie.Need-ends-here-requires Inv-loop μ-loop
 ends-here-requires c κs = search needs
 
--- src/lib.rt:110:20
 cast-flags : tie.Need-cast-flags Inv-loop μ-loop
 cast-flags c = search needs
 
--- src/lib.rt:110:9
 array-write-flags : tie.Need-array-write-flags Inv-loop μ-loop
 array-write-flags c = search needs
 
--- src/lib.rt:111:9
 add-q : tie.Need-add-q Inv-loop μ-loop
 add-q c = search needs
 
--- src/lib.rt:109:5
 loop-less : tie.Need-loop-less Inv-loop μ-loop
 loop-less c = search needs
 
--- src/lib.rt:109:5
 loop-again : tie.Need-loop-again Inv-loop μ-loop
 loop-again c = let L = c .before .before .before .loop in
     let M = c .before .before .before .before .before .before .before .args .marks .now in
     (search needs, (simp length-set (L .inv .1 .0), flag-more (λ (k : ℕ). boolByte (fits (getD M k 0) true)) (L .flags) (L .inv .1 .1) (search needs) (ap boolByte (c .ends-here .ensures))))
 
--- src/lib.rt:102:1
 returns : tie.Need-returns Inv-loop μ-loop
 unfolding ahead
 returns c = record { of = λ k l. c .before .loop .inv .1 .1 k (omega arith) }

@@ -15,35 +15,27 @@ Inv-loop rows cells marks text flags from to n earlier₀ q₀ earlier q = (n �
 abbrev μ-loop : tie.MeasureT-loop
 μ-loop rows cells marks text flags from to n earlier₀ q₀ earlier q = n - q
 
--- src/lib.rt:125:5
 loop-holds : tie.Need-loop-holds Inv-loop μ-loop
 loop-holds c = (refl, (search needs, (refl, λ k l. absurd (omega arith))))
 
--- src/lib.rt:126:13
 look-requires : tie.Need-look-requires Inv-loop μ-loop
 look-requires c κs = (c .before .before .before .before .before .pre .0, record { row = search needs; forward = c .before .before .before .before .before .pre .1 .forward; inside = c .before .before .before .before .before .pre .1 .inside; flagged = c .before .before .before .before .before .pre .1 .flagged })
 
--- src/lib.rt:127:31
 cast-earlier : tie.Need-cast-earlier Inv-loop μ-loop
 cast-earlier c = search needs
 
--- src/lib.rt:127:17
 cast-earlier-2 : tie.Need-cast-earlier-2 Inv-loop μ-loop
 cast-earlier-2 c = search needs
 
--- src/lib.rt:127:9
 array-write-earlier : tie.Need-array-write-earlier Inv-loop μ-loop
 array-write-earlier c = search needs
 
--- src/lib.rt:128:9
 add-q : tie.Need-add-q Inv-loop μ-loop
 add-q c = search needs
 
--- src/lib.rt:125:5
 loop-less : tie.Need-loop-less Inv-loop μ-loop
 loop-less c = search needs
 
--- src/lib.rt:125:5
 loop-again : tie.Need-loop-again Inv-loop μ-loop
 loop-again c = let L = c .before .before .before .loop in
     let A = c .before .before .before .before .before .before .before .args in (
@@ -57,7 +49,6 @@ loop-again c = let L = c .before .before .before .loop in
       ),
     )
 
--- src/lib.rt:117:1
 returns : tie.Need-returns Inv-loop μ-loop
 returns c = record { of = λ k l. c .before .loop .inv .1 .1 .1 k (omega arith) }
 

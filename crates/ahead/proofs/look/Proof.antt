@@ -24,81 +24,64 @@ on c =
     let S = start c in
     c .loop .inv (S .args .rows .count) (S .args .rows .head .0) (S .pre .0) (S .pre .1 .row) (S .pre .1 .forward) (S .pre .1 .inside)
 
--- src/lib.rt:79:5
 loop-holds : tie.Need-loop-holds Inv-loop μ-loop
 loop-holds c = λ n h r l f i. record { row = l; low = omega arith; high = f; same = refl }
 
--- src/lib.rt:80:35
 cast-ends-here : tie.Need-cast-ends-here Inv-loop μ-loop
 cast-ends-here c = search needs
 
--- src/lib.rt:80:29
 shared-slice-read-ends-here : tie.Need-shared-slice-read-ends-here Inv-loop μ-loop
 shared-slice-read-ends-here c = let o = on (c .before .before .before) in
     omega arith
 
--- src/lib.rt:80:12
 ends-here-requires : tie.Need-ends-here-requires Inv-loop μ-loop
 ends-here-requires c κs = search needs
 
--- src/lib.rt:83:24
 sub-t17 : tie.Need-sub-t17 Inv-loop μ-loop
 sub-t17 c = let o = on (c .before .before .before .before .before) in
     omega arith
 
--- src/lib.rt:81:13
 returns : tie.Need-returns Inv-loop μ-loop
 returns c = let o = on (c .before .before .before .before .before) in
     record { answer = on-hit o (c .before .before .before .before .before .before .before .before .before .before .pre .1 .inside) (c .before .before .before .before .loop-test .taken) (sym (c .before .ends-here .ensures) ∙ c .if1 .taken); few = omega arith }
 
--- src/lib.rt:89:24
 sub-t18 : tie.Need-sub-t18 Inv-loop μ-loop
 sub-t18 c = let o = on (c .before .before .before .before .before .before .before .before) in
     omega arith
 
--- src/lib.rt:87:13
 returns-2 : tie.Need-returns-2 Inv-loop μ-loop
 returns-2 c = let o = on (c .before .before .before .before .before .before .before .before) in
     record { answer = on-dead o (c .before .before .before .before .before .before .before .before .before .before .before .before .before .pre .1 .inside) (c .before .before .before .before .before .before .before .before .before .before .before .before .before .pre .0 .stuck) (λ i. omega (arith, c .before .before .before .before .before .before .before .before .before .before .shared-slice-known3 .given i)) (c .if2 .taken); few = omega arith }
 
--- src/lib.rt:92:39
 shared-slice-read-step : tie.Need-shared-slice-read-step Inv-loop μ-loop
 shared-slice-read-step c = let o = on (c .before .before .before .before .before .before .before .before .before) in
     omega arith
 
--- src/lib.rt:92:9
 step-requires : tie.Need-step-requires Inv-loop μ-loop
 step-requires c κs = let o = on (c .before .before .before .before .before .before .before .before .before) in
     omega arith
 
--- src/lib.rt:93:9
 add-p : tie.Need-add-p Inv-loop μ-loop
 add-p c = search needs
 
--- src/lib.rt:79:5
 loop-less : tie.Need-loop-less Inv-loop μ-loop
 loop-less c = search needs
 
--- src/lib.rt:79:5
 loop-again : tie.Need-loop-again Inv-loop μ-loop
 loop-again c = λ n h r l f i. on-more (r .well) (c .before .before .before .before .before .before .before .before .before .before .loop .inv n h r l f i) (c .before .before .before .before .before .before .before .before .before .loop-test .taken) i (omega (arith, c .before .shared-slice-known5 .given (c .before .before .before .before .before .before .before .before .before .before .loop .p))) (sym (c .before .before .before .before .before .before .ends-here .ensures) ∙ c .before .before .before .before .before .if1 .left) (c .step .ensures)
 
--- src/lib.rt:96:22
 cast-t20 : tie.Need-cast-t20 Inv-loop μ-loop
 cast-t20 c = let o = on (c .before .before) in
     omega arith
 
--- src/lib.rt:96:16
 element-copy-out-t23 : tie.Need-element-copy-out-t23 Inv-loop μ-loop
 element-copy-out-t23 c = let o = on (c .before .before) in
     omega arith
 
--- src/lib.rt:97:16
 sub-t25 : tie.Need-sub-t25 Inv-loop μ-loop
 sub-t25 c = let o = on (c .before .before .before) in
     omega arith
 
--- src/lib.rt:71:1
 returns-3 : tie.Need-returns-3 Inv-loop μ-loop
 returns-3 c = let o = on (c .before .before .before) in
     record { answer = on-end o (c .before .before .before .before .before .before .before .before .pre .1 .inside) (c .before .before .before .before .before .before .before .before .args .flags .now) (c .before .before .before .before .before .before .before .before .pre .1 .flagged) (c .before .before .loop-test .left); few = omega arith }

@@ -14,55 +14,42 @@ Inv-loop rows cells marks q from b₀ b = (from ≡ 256 * q) × ((b ≤ 256) × 
 abbrev μ-loop : tie.MeasureT-loop
 μ-loop rows cells marks q from b₀ b = 256 - b
 
--- src/lib.rt:30:25
 shared-slice-read-ends-here : tie.Need-shared-slice-read-ends-here Inv-loop μ-loop
 shared-slice-read-ends-here c = search needs
 
--- src/lib.rt:30:8
 ends-here-requires : tie.Need-ends-here-requires Inv-loop μ-loop
 ends-here-requires c κs = search needs
 
--- src/lib.rt:31:9
 returns : tie.Need-returns Inv-loop μ-loop
 returns c = λ e. absurd (true≢false (sym e))
 
--- src/lib.rt:33:16
 mul-from : tie.Need-mul-from Inv-loop μ-loop
 mul-from c = search needs
 
--- src/lib.rt:35:5
 loop-holds : tie.Need-loop-holds Inv-loop μ-loop
 loop-holds c = (refl, (search needs, λ k l. absurd (omega arith)))
 
--- src/lib.rt:36:18
 add-if2 : tie.Need-add-if2 Inv-loop μ-loop
 add-if2 c = search needs
 
--- src/lib.rt:36:12
 mul-if2 : tie.Need-mul-if2 Inv-loop μ-loop
 mul-if2 c = search needs
 
--- src/lib.rt:36:12
 shared-slice-read-if2 : tie.Need-shared-slice-read-if2 Inv-loop μ-loop
 shared-slice-read-if2 c = search needs
 
--- src/lib.rt:37:13
 returns-2 : tie.Need-returns-2 Inv-loop μ-loop
 returns-2 c = λ e. absurd (true≢false (sym e))
 
--- src/lib.rt:39:9
 add-b : tie.Need-add-b Inv-loop μ-loop
 add-b c = search needs
 
--- src/lib.rt:35:5
 loop-less : tie.Need-loop-less Inv-loop μ-loop
 loop-less c = search needs
 
--- src/lib.rt:35:5
 loop-again : tie.Need-loop-again Inv-loop μ-loop
 loop-again c = (c .before .before .before .loop .inv .0, (search needs, below-more _ _ (c .before .before .before .loop .inv .1 .1) (ap (λ (n : ℕ). getD (c .before .before .before .before .before .before .before .before .before .args .cells .now) (n + c .before .before .before .loop .b) 0) (sym (c .before .before .before .loop .inv .0)) ∙ c .if2 .left)))
 
--- src/lib.rt:26:1
 returns-3 : tie.Need-returns-3 Inv-loop μ-loop
 returns-3 c = λ e. record { stays = λ b l. c .before .loop .inv .1 .1 b (search needs); barren = sym (c .before .before .before .ends-here .ensures) ∙ c .before .before .if1 .left }
 

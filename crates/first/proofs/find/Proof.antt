@@ -18,33 +18,26 @@ table S = tableOf (S .args .rows) (S .args .head .0) (S .args .marks .now) (S .a
 ready : (c : tie.After-dead-row) → Ready (table (c .before .before .before .before)) (c .before .before .before .before .args .text .now) (c .dead-row .result .0)
 ready c = record { well = well-formed-test _ .0 (c .before .before .before .before .pre .0); short = c .before .before .before .before .pre .1; stuck = c .dead-row .ensures }
 
--- src/lib.rt:32:9
 dead-row-requires : tie.Need-dead-row-requires
 dead-row-requires c κs = well-formed-test _ .0 (c .before .before .before .pre .0)
 
--- src/lib.rt:38:9
 try-each-requires : tie.Need-try-each-requires
 try-each-requires c κs = ready c
 
--- src/lib.rt:41:9
 last-match-requires : tie.Need-last-match-requires
 last-match-requires c κs = (ready (c .before .before), c .before .try-each .ensures .hit (c .if1 .taken) .0)
 
--- src/lib.rt:41:9
 returns : tie.Need-returns
 returns c = let h = c .before .before .try-each .ensures .hit (c .before .if1 .taken) in
     c .last-match .ensures ∙ sym (c .before .before .try-each .ensures .past ∙ first-here (table (c .before .before .before .before .before .before .before)) (c .before .before .before .before .before .before .before .args .text .now) (h .0) (h .1))
 
--- src/lib.rt:44:9
 returns-2 : tie.Need-returns-2
 returns-2 c = let e : c .before .before .try-each .result .at ≡ length (c .before .before .before .before .before .before .before .args .text .now) + 1 = omega (arith, c .before .before .try-each .ensures .within, c .if2 .taken) in
     sym (c .before .before .try-each .ensures .past ∙ ap (firstFrom (table (c .before .before .before .before .before .before .before)) (c .before .before .before .before .before .before .before .args .text .now)) e ∙ first-none (table (c .before .before .before .before .before .before .before)) (c .before .before .before .before .before .before .before .args .text .now))
 
--- src/lib.rt:46:5
 read-on-requires : tie.Need-read-on-requires
 read-on-requires c κs = (ready (c .before .before .before), c .if2 .left)
 
--- src/lib.rt:27:1
 returns-3 : tie.Need-returns-3
 returns-3 c = c .read-on .ensures ∙ sym (c .before .before .before .try-each .ensures .past)
 

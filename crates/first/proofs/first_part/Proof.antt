@@ -29,39 +29,31 @@ found c = c .find .ensures
 within : (c : tie.After-found) → (c .found .given .0 .0 ≤ c .found .given .0 .1 .0) × (c .found .given .0 .1 .0 ≤ length (c .before .before .before .before .before .before .before .before .before .args .text .now))
 within c = first-within _ _ _ _ (sym (found (c .before .before)) ∙ ap foundOf (c .found .given .1))
 
--- src/lib.rt:72:9
 returns : tie.Need-returns
 unfolding partAnswer firstAnswer partOf
 returns c = hands-back (ap (partOf _) (checked-13 _ _ _ (sym (c .before .before .well-formed .ensures) ∙ not-true _ (c .before .if1 .taken)))) (record { outcome = refl; block = refl; place = omega arith; bytes = refl })
 
--- src/lib.rt:77:9
 returns-2 : tie.Need-returns-2
 unfolding partAnswer firstAnswer partOf
 returns-2 c = hands-back (ap (partOf _) (checked-12 _ _ _ (formed (c .before .before)) (c .before .if2 .taken))) (record { outcome = refl; block = refl; place = omega arith; bytes = refl })
 
--- src/lib.rt:79:9
 find-requires : tie.Need-find-requires
 find-requires c κs = (formed (c .before), c .if2 .left)
 
--- src/lib.rt:85:13
 sub-result-3 : tie.Need-sub-result-3
 sub-result-3 c = within (c .before) .0
 
--- src/lib.rt:85:13
 part-result-start-3 : tie.Need-part-result-start-3
 part-result-start-3 c = within (c .before) .0
 
--- src/lib.rt:85:13
 part-result-end-3 : tie.Need-part-result-end-3
 part-result-end-3 c = within (c .before) .1
 
--- src/lib.rt:67:1
 returns-3 : tie.Need-returns-3
 unfolding partAnswer firstAnswer partOf
 returns-3 c = hands-back (ap (partOf _) (checked-past _ _ _ (formed (c .before .before .before .before .before .before)) (c .before .before .before .before .before .if2 .left) ∙ ap given (sym (found (c .before .before .before .before)) ∙ ap foundOf (c .before .before .found .given .1))))
     (record { outcome = refl; block = refl; place = omega arith; bytes = cut (c .before .before .found .given .0 .0) (c .before .before .found .given .0 .1 .0) (c .before .before .before .before .before .before .before .before .before .before .before .args .text .now) })
 
--- src/lib.rt:67:1
 returns-4 : tie.Need-returns-4
 unfolding partAnswer firstAnswer partOf
 returns-4 c = let t = c .before .before .before .before .before .before .before .before .before .before .args .text .now in

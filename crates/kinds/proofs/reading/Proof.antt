@@ -14,35 +14,27 @@ past l ne = omega arith
 between : {n : ℕ} → 9 ≤ n → n ≤ 9 → n ≡ 9
 between a b = omega arith
 
--- src/lib.rt:99:1
 returns : tie.Need-returns
 returns c = numbered (c .match .keys1)
 
--- src/lib.rt:99:1
 returns-2 : tie.Need-returns-2
 returns-2 c = numbered (c .match .keys2)
 
--- src/lib.rt:99:1
 returns-3 : tie.Need-returns-3
 returns-3 c = numbered (c .match .keys3)
 
--- src/lib.rt:99:1
 returns-4 : tie.Need-returns-4
 returns-4 c = numbered (c .match .keys4)
 
--- src/lib.rt:99:1
 returns-5 : tie.Need-returns-5
 returns-5 c = numbered (c .match .keys5)
 
--- src/lib.rt:99:1
 returns-6 : tie.Need-returns-6
 returns-6 c = numbered (c .match .keys6)
 
--- src/lib.rt:99:1
 returns-7 : tie.Need-returns-7
 returns-7 c = numbered (c .match .keys7)
 
--- src/lib.rt:99:1
 returns-8 : tie.Need-returns-8
 returns-8 c =
     let not = c .match .rest in

@@ -6,19 +6,15 @@ use Rattle.listing.proofs.Inputs.{line-end-dropped, no-line-end, nothin
 use Rattle.listing.proofs.pattern_of.Statement.{statement}
 use Rattle.listing.proofs.pattern_of.Tie as tie
 
--- src/input.rt:11:9
 returns : tie.Need-returns
 returns c = nothing-left (c .before .args .input .now) (search needs)
 
--- src/input.rt:15:9
 slice-aggregate-result : tie.Need-slice-aggregate-result
 slice-aggregate-result c = simp length-take (omega arith)
 
--- src/input.rt:15:9
 returns-2 : tie.Need-returns-2
 returns-2 c = sym (line-end-dropped (c .before .before .before .before .args .input .now) _ (omega arith) (c .before .if2 .taken))
 
--- src/input.rt:6:1
 returns-3 : tie.Need-returns-3
 returns-3 c = sym (no-line-end (c .before .before .before .args .input .now) _ (omega arith) (c .if2 .left))
 

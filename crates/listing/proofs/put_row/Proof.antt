@@ -5,27 +5,21 @@ use Rattle.writing.proofs.Writings.{join}
 use Rattle.listing.proofs.put_row.Statement.{statement}
 use Rattle.listing.proofs.put_row.Tie as tie
 
--- src/lines.rt:52:9
 put-number-requires : tie.Need-put-number-requires
 put-number-requires c κs = omega (arith, simp length-append at (c .before .before .before .before .pre .1))
 
--- src/lines.rt:53:9
 put-requires : tie.Need-put-requires
 put-requires c κs = omega (arith, simp length-append at (c .before .before .before .before .before .before .before .before .pre .1))
 
--- src/lines.rt:54:9
 put-number-requires-2 : tie.Need-put-number-requires-2
 put-number-requires-2 c κs = omega (arith, simp length-append at (c .before .before .before .before .before .before .before .before .before .before .before .before .pre .1))
 
--- src/lines.rt:55:9
 put-runs-requires : tie.Need-put-runs-requires
 put-runs-requires c κs = (c .before .before .before .before .before .before .before .before .before .before .before .before .before .before .before .before .pre .0, omega (arith, simp length-append at (c .before .before .before .before .before .before .before .before .before .before .before .before .before .before .before .before .pre .1)))
 
--- src/lines.rt:56:5
 put-requires-2 : tie.Need-put-requires-2
 put-requires-2 c κs = omega (arith, simp length-append at (c .before .before .before .before .before .before .before .before .before .before .before .before .before .before .before .before .before .before .before .before .pre .1))
 
--- src/lines.rt:47:1
 returns : tie.Need-returns
 returns c = join (join (join (join (c .before .before .before .before .before .before .before .before .before .before .before .before .before .before .before .before .before .before .put-number .ensures) (c .before .before .before .before .before .before .before .before .before .before .before .before .before .before .put .ensures)) (c .before .before .before .before .before .before .before .before .before .before .put-number2 .ensures)) (c .before .before .before .before .before .before .put-runs .ensures)) (c .before .before .put2 .ensures)
 

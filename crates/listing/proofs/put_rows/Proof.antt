@@ -15,67 +15,51 @@ Inv-loop out₀ at rows cells marks here₀ q₀ out here q = RowsLeft (rowLine 
 abbrev μ-loop : tie.MeasureT-loop
 μ-loop out₀ at rows cells marks here₀ q₀ out here q = rows - q
 
--- src/lines.rt:67:5
 loop-holds : tie.Need-loop-holds Inv-loop μ-loop
 loop-holds c = rows-begin
 
--- src/lines.rt:68:17
 cast-i : tie.Need-cast-i Inv-loop μ-loop
 cast-i c = search needs
 
--- src/lines.rt:69:43
 shared-slice-read-put-row : tie.Need-shared-slice-read-put-row Inv-loop μ-loop
 shared-slice-read-put-row c = search needs
 
--- src/lines.rt:69:60
 mul-put-row : tie.Need-mul-put-row Inv-loop μ-loop
 mul-put-row c = search needs
 
--- src/lines.rt:69:69
 mul-put-row-2 : tie.Need-mul-put-row-2 Inv-loop μ-loop
 mul-put-row-2 c = search needs
 
--- src/lines.rt:69:69
 add-put-row : tie.Need-add-put-row Inv-loop μ-loop
 add-put-row c = search needs
 
--- src/lines.rt:69:53
 mul-put-row-3 : tie.Need-mul-put-row-3 Inv-loop μ-loop
 mul-put-row-3 c = search needs
 
--- src/lines.rt:69:53
 sub-put-row : tie.Need-sub-put-row Inv-loop μ-loop
 sub-put-row c = search needs
 
--- src/lines.rt:69:53
 part-put-row-start : tie.Need-part-put-row-start Inv-loop μ-loop
 part-put-row-start c = search needs
 
--- src/lines.rt:69:53
 part-put-row-end : tie.Need-part-put-row-end Inv-loop μ-loop
 part-put-row-end c = search needs
 
--- src/lines.rt:69:9
 put-row-requires : tie.Need-put-row-requires Inv-loop μ-loop
 put-row-requires c κs = (part-length (c .before .before .before .before .loop .q) (c .before .before .before .before .before .before .before .before .args .cells .now) (omega arith), rw (part-line (tableOf (c .before .before .before .before .before .before .before .before .args .rows) 0 (c .before .before .before .before .before .before .before .before .args .marks .now) (c .before .before .before .before .before .before .before .before .args .cells .now)) (c .before .before .before .before .loop .q)) at (row-room (c .before .before .before .before .loop .inv) (search needs) (c .before .before .before .before .before .before .before .before .pre .1)))
 
--- src/lines.rt:70:9
 add-q : tie.Need-add-q Inv-loop μ-loop
 add-q c = search needs
 
--- src/lines.rt:67:5
 loop-less : tie.Need-loop-less Inv-loop μ-loop
 loop-less c = search needs
 
--- src/lines.rt:67:5
 loop-again : tie.Need-loop-again Inv-loop μ-loop
 loop-again c = row-written (c .before .before .before .before .before .before .before .loop .inv) (search needs) (rw (part-line (tableOf (c .before .before .before .before .before .before .before .before .before .before .before .args .rows) 0 (c .before .before .before .before .before .before .before .before .before .before .before .args .marks .now) (c .before .before .before .before .before .before .before .before .before .before .before .args .cells .now)) (c .before .before .before .before .before .before .before .loop .q)) (c .before .before .put-row .ensures))
 
--- src/lines.rt:60:1
 same-length : tie.Need-same-length Inv-loop μ-loop
 same-length c = left-length (c .before .loop .inv .left)
 
--- src/lines.rt:60:1
 returns : tie.Need-returns Inv-loop μ-loop
 returns c = rows-over (c .before .loop .inv) (search needs)
 

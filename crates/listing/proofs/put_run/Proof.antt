@@ -5,27 +5,21 @@ use Rattle.writing.proofs.Writings.{join}
 use Rattle.listing.proofs.put_run.Statement.{statement}
 use Rattle.listing.proofs.put_run.Tie as tie
 
--- src/lines.rt:23:9
 put-number-requires : tie.Need-put-number-requires
 put-number-requires c κs = omega (arith, simp length-append at (c .before .before .before .before .before .before .pre))
 
--- src/lines.rt:24:9
 put-requires-2 : tie.Need-put-requires-2
 put-requires-2 c κs = omega (arith, simp length-append at (c .before .before .before .before .before .before .before .before .before .before .pre))
 
--- src/lines.rt:25:9
 put-number-requires-2 : tie.Need-put-number-requires-2
 put-number-requires-2 c κs = omega (arith, simp length-append at (c .before .before .before .before .before .before .before .before .before .before .before .before .before .before .pre))
 
--- src/lines.rt:26:9
 put-requires-3 : tie.Need-put-requires-3
 put-requires-3 c κs = omega (arith, simp length-append at (c .before .before .before .before .before .before .before .before .before .before .before .before .before .before .before .before .before .before .pre))
 
--- src/lines.rt:27:5
 put-number-requires-3 : tie.Need-put-number-requires-3
 put-number-requires-3 c κs = omega (arith, simp length-append at (c .before .before .before .before .before .before .before .before .before .before .before .before .before .before .before .before .before .before .before .before .before .before .before .pre))
 
--- src/lines.rt:18:1
 returns : tie.Need-returns
 returns c = join (join (join (join (join (c .before .before .before .before .before .before .before .before .before .before .before .before .before .before .before .before .before .before .before .before .before .before .before .put .ensures) (c .before .before .before .before .before .before .before .before .before .before .before .before .before .before .before .before .before .before .before .put-number .ensures)) (c .before .before .before .before .before .before .before .before .before .before .before .before .before .before .before .put2 .ensures)) (c .before .before .before .before .before .before .before .before .before .before .before .put-number2 .ensures)) (c .before .before .before .before .before .before .before .put3 .ensures)) (c .before .before .put-number3 .ensures)
 

@@ -13,51 +13,39 @@ Inv-loop out₀ at cells here₀ lo₀ out here lo = RunsLeft runText cells out�
 abbrev μ-loop : tie.MeasureT-loop
 μ-loop out₀ at cells here₀ lo₀ out here lo = length cells - lo
 
--- src/lines.rt:38:5
 loop-holds : tie.Need-loop-holds Inv-loop μ-loop
 loop-holds c = runs-begin
 
--- src/lines.rt:39:13
 run-end-requires : tie.Need-run-end-requires Inv-loop μ-loop
 run-end-requires c κs = search needs
 
--- src/lines.rt:40:35
 cast-put-run : tie.Need-cast-put-run Inv-loop μ-loop
 cast-put-run c = search needs
 
--- src/lines.rt:40:45
 cast-put-run-2 : tie.Need-cast-put-run-2 Inv-loop μ-loop
 cast-put-run-2 c = search needs
 
--- src/lines.rt:40:59
 mul-t7 : tie.Need-mul-t7 Inv-loop μ-loop
 mul-t7 c = search needs
 
--- src/lines.rt:40:59
 shared-slice-read-t14 : tie.Need-shared-slice-read-t14 Inv-loop μ-loop
 shared-slice-read-t14 c = search needs
 
--- src/lines.rt:40:9
 put-run-requires : tie.Need-put-run-requires Inv-loop μ-loop
 put-run-requires c κs = run-room (c .before .before .before .before .loop .inv) (c .before .before .run-end .ensures) (c .before .before .before .before .before .before .before .pre .1)
 
--- src/lines.rt:41:14
 add-lo : tie.Need-add-lo Inv-loop μ-loop
 add-lo c = search needs
 
--- src/lines.rt:38:5
 loop-less : tie.Need-loop-less Inv-loop μ-loop
 loop-less c = search needs
 
--- src/lines.rt:38:5
 loop-again : tie.Need-loop-again Inv-loop μ-loop
 loop-again c = run-written (c .before .before .before .before .before .before .before .loop .inv) (c .before .before .before .before .before .run-end .ensures) (c .before .before .put-run .ensures)
 
--- src/lines.rt:31:1
 same-length : tie.Need-same-length Inv-loop μ-loop
 same-length c = left-length (c .before .loop .inv .left)
 
--- src/lines.rt:31:1
 returns : tie.Need-returns Inv-loop μ-loop
 returns c = runs-over (c .before .loop .inv) (search needs)
 

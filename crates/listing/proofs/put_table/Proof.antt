@@ -6,32 +6,26 @@ use Rattle.rules.specs.Listing.{listing}
 use Rattle.listing.proofs.put_table.Statement.{statement}
 use Rattle.listing.proofs.put_table.Tie as tie
 
--- src/lines.rt:82:9
 put-number-requires : tie.Need-put-number-requires
 unfolding listing
 put-number-requires c κs = omega (arith, simp length-append at (c .before .before .before .before .before .before .before .before .before .pre .1))
 
--- src/lines.rt:83:9
 put-all-requires-2 : tie.Need-put-all-requires-2
 unfolding listing
 put-all-requires-2 c κs = omega (arith, simp length-append at (c .before .before .before .before .before .before .before .before .before .before .before .before .before .before .pre .1))
 
--- src/lines.rt:84:9
 put-number-requires-2 : tie.Need-put-number-requires-2
 unfolding listing
 put-number-requires-2 c κs = omega (arith, simp length-append at (c .before .before .before .before .before .before .before .before .before .before .before .before .before .before .before .before .before .before .before .pre .1))
 
--- src/lines.rt:85:9
 put-requires : tie.Need-put-requires
 unfolding listing
 put-requires c κs = omega (arith, simp length-append at (c .before .before .before .before .before .before .before .before .before .before .before .before .before .before .before .before .before .before .before .before .before .before .before .pre .1))
 
--- src/lines.rt:86:5
 put-rows-requires : tie.Need-put-rows-requires
 unfolding listing
 put-rows-requires c κs = (c .before .before .before .before .before .before .before .before .before .before .before .before .before .before .before .before .before .before .before .before .before .before .before .before .before .before .before .pre .0, omega (arith, simp length-append at (c .before .before .before .before .before .before .before .before .before .before .before .before .before .before .before .before .before .before .before .before .before .before .before .before .before .before .before .pre .1)))
 
--- src/lines.rt:76:1
 returns : tie.Need-returns
 unfolding listing
 returns c = join (join (join (join (join (c .before .before .before .before .before .before .before .before .before .before .before .before .before .before .before .before .before .before .before .before .before .before .before .before .put-all .ensures) (c .before .before .before .before .before .before .before .before .before .before .before .before .before .before .before .before .before .before .before .before .put-number .ensures)) (c .before .before .before .before .before .before .before .before .before .before .before .before .before .before .before .put-all2 .ensures)) (c .before .before .before .before .before .before .before .before .before .before .put-number2 .ensures)) (c .before .before .before .before .before .before .put .ensures)) (c .before .before .put-rows .ensures)

@@ -20,23 +20,19 @@ formed c = sym (c .before .well-formed .ensures) ∙ not-false (c .before .well-
 good : (c : tie.Else1) → WellFormed (lent (c .before .before .before .before .before))
 good c = well-formed-test _ .0 (formed c)
 
--- src/lib.rt:48:9
 returns : tie.Need-returns
 returns c = unformed-shown (lent (c .before .before .before .before .before)) _ _ (sym (c .before .well-formed .ensures) ∙ not-true (c .before .well-formed .result) (c .if1 .taken))
 
--- src/lib.rt:50:9
 put-table-requires : tie.Need-put-table-requires
 put-table-requires c κs =
     let g = good (c .before) in
     omega (arith, listing-most g)
 
--- src/lib.rt:51:5
 answer-requires : tie.Need-answer-requires
 answer-requires c κs =
     let g = good (c .before .before .before .before) in
     omega (arith, listing-most g)
 
--- src/lib.rt:44:1
 returns-2 : tie.Need-returns-2
 returns-2 c = formed-shown (lent (c .before .before .before .before .before .before .before .before .before .before)) (c .answer .result) (formed (c .before .before .before .before .before)) (c .before .before .before .put-table .ensures) (c .answer .ensures)
 

@@ -39,7 +39,6 @@ pub list-rows-spec : {M : Type 1} → statement M
 list-rows-spec =
     tie.close
     (tie.spec
-    (λ c. search needs)
     (λ c κs. search needs)
     (λ c κs. search needs)
     (λ c κs. search needs)

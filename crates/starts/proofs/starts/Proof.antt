@@ -45,25 +45,20 @@ room c =
     let S = c .before .before .before .before .before .before .before .before .before in
     ⊎-elim (λ x. omega (arith, x .1 .ensures, x .2 .left)) (λ x. omega (arith, starts-most (table S) (S .args .text .now), x .left)) (c .if3 .came)
 
--- src/lib.rt:79:9
 returns : tie.Need-returns
 unfolding startsAnswer startsFound listedIn
 returns c = sym (ap (listedIn (c .before .before .before .before .before .before .args .list .now)) (checked-13 _ _ _ (sym (c .before .well-formed .ensures) ∙ not-true _ (c .if1 .taken))))
 
--- src/lib.rt:82:9
 returns-2 : tie.Need-returns-2
 unfolding startsAnswer startsFound listedIn
 returns-2 c = sym (ap (listedIn (c .before .before .before .before .before .before .before .args .list .now)) (checked-12 _ _ _ (formed (c .before)) (c .if2 .taken)))
 
--- src/lib.rt:84:9
 dead-row-requires : tie.Need-dead-row-requires
 dead-row-requires c κs = well-formed-test _ .0 (formed (c .before))
 
--- src/lib.rt:91:13
 count-starts-requires : tie.Need-count-starts-requires
 count-starts-requires c κs = ready (c .before)
 
--- src/lib.rt:93:13
 returns-3 : tie.Need-returns-3
 unfolding listedIn
 returns-3 c = let S = c .before .before .before .before .before .before .before .before .before .before .before in
@@ -72,11 +67,9 @@ returns-3 c = let S = c .before .before .before .before .before .before .before 
     ap (λ (k : ℕ). listedOf (Refused (FewPlaces k)) l) (n .ensures)
     ∙ sym (fitting (c .before .before .before) true (lt-ltb (length l) (length (starts (table S) (S .args .text .now))) (omega (arith, n .ensures, c .if4 .taken))))
 
--- src/lib.rt:96:19
 list-starts-requires : tie.Need-list-starts-requires
 list-starts-requires c κs = (ready (c .before .before), room (c .before))
 
--- src/lib.rt:75:1
 returns-4 : tie.Need-returns-4
 unfolding listedIn
 returns-4 c = let S = c .before .before .before .before .before .before .before .before .before .before .before .before .before in

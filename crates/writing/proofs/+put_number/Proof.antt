@@ -25,51 +25,40 @@ abbrev put-number-below : ℕ → In 1 put-number-kinds.ps
 put-number-below t =
     and 1 put-number-kinds.ps (falls 1 put-number-kinds.ps _<_ μ-put-number t) put-number.Pre
 
--- src/writing.rt:37:34
 put-number-cast-put : (t : ℕ) → put-number-lts.Need-cast-put (put-reads.Asked, put-reads.Learnt, put-number-below t, put-number.Post) (put-number-at t) put-number.Post
 put-number-cast-put t c = search needs
 
--- src/writing.rt:37:29
 put-number-add-put : (t : ℕ) → put-number-lts.Need-add-put (put-reads.Asked, put-reads.Learnt, put-number-below t, put-number.Post) (put-number-at t) put-number.Post
 put-number-add-put t c = search needs
 
--- src/writing.rt:37:9
 put-number-put-requires : (t : ℕ) → put-number-lts.Need-put-requires (put-reads.Asked, put-reads.Learnt, put-number-below t, put-number.Post) (put-number-at t) put-number.Post
 put-number-put-requires t c κs = omega (arith, ap length (decimal-digit (c .before .before .before .args .n) (omega arith)))
 
--- src/writing.rt:37:9
 put-number-same-length : (t : ℕ) → put-number-lts.Need-same-length (put-reads.Asked, put-reads.Learnt, put-number-below t, put-number.Post) (put-number-at t) put-number.Post
 put-number-same-length t c = search needs
 
--- src/writing.rt:37:9
 put-number-returns : (t : ℕ) → put-number-lts.Need-returns (put-reads.Asked, put-reads.Learnt, put-number-below t, put-number.Post) (put-number-at t) put-number.Post
 put-number-returns t c =
     let S = c .before .before .before .before .before .before in
     rw (decimal-digit (S .args .n) (omega arith)) (c .before .before .put .ensures)
 
--- src/writing.rt:39:9
 put-number-put-number-requires : (t : ℕ) → put-number-lts.Need-put-number-requires (put-reads.Asked, put-reads.Learnt, put-number-below t, put-number.Post) (put-number-at t) put-number.Post
 put-number-put-number-requires t c κs = omega (arith, decimal-length (c .before .before .before .args .n) (omega arith))
 
--- src/writing.rt:40:25
 put-number-cast-put-2 : (t : ℕ) → put-number-lts.Need-cast-put-2 (put-reads.Asked, put-reads.Learnt, put-number-below t, put-number.Post) (put-number-at t) put-number.Post
 put-number-cast-put-2 t c = search needs
 
--- src/writing.rt:40:20
 put-number-add-put-2 : (t : ℕ) → put-number-lts.Need-add-put-2 (put-reads.Asked, put-reads.Learnt, put-number-below t, put-number.Post) (put-number-at t) put-number.Post
 put-number-add-put-2 t c = search needs
 
--- src/writing.rt:40:5
 put-number-put-requires-2 : (t : ℕ) → put-number-lts.Need-put-requires-2 (put-reads.Asked, put-reads.Learnt, put-number-below t, put-number.Post) (put-number-at t) put-number.Post
 put-number-put-requires-2 t c κs =
     let P = c .before .before .before in
     omega (arith, decimal-length (P .before .before .before .before .args .n) (omega arith))
 
--- src/writing.rt:32:1
 put-number-same-length-2 : (t : ℕ) → put-number-lts.Need-same-length-2 (put-reads.Asked, put-reads.Learnt, put-number-below t, put-number.Post) (put-number-at t) put-number.Post
 put-number-same-length-2 t c = search needs
 
--- src/writing.rt:32:1
 put-number-returns-2 : (t : ℕ) → put-number-lts.Need-returns-2 (put-reads.Asked, put-reads.Learnt, put-number-below t, put-number.Post) (put-number-at t) put-number.Post
 put-number-returns-2 t c =
     let P = c .before .before .before .before .before .before in

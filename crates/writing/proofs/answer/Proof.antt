@@ -6,11 +6,9 @@ use Rattle.rules.specs.Answers.{given}
 use Rattle.writing.proofs.answer.Statement.{statement}
 use Rattle.writing.proofs.answer.Tie as tie
 
--- src/lib.rt:38:9
 returns : tie.Need-returns
 returns c = ap (λ (b : Bool). given (b, c .before .args .n)) (sym (le-leb _ _ (c .if1 .taken)))
 
--- src/lib.rt:33:1
 returns-2 : tie.Need-returns-2
 returns-2 c = ap (λ (b : Bool). given (b, c .before .args .n)) (sym (lt-leb _ _ (c .if1 .left)))
 

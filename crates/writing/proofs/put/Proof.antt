@@ -6,11 +6,9 @@ use lib.Seq.{set-out}
 use Rattle.writing.proofs.put.Statement.{statement}
 use Rattle.writing.proofs.put.Tie as tie
 
--- src/writing.rt:7:1
 same-length : tie.Need-same-length
 same-length c = ⊎-elim (λ x. ap length (x .1) ∙ simp length-set) (λ x. ap length (x .1)) (c .if1 .came)
 
--- src/writing.rt:7:1
 returns : tie.Need-returns
 returns c =
     let S = c .before in

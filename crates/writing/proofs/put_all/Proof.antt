@@ -19,39 +19,31 @@ byte-ahead text i h = rw (add-one, drop-cons text i 0)
 abbrev μ-loop : tie.MeasureT-loop
 μ-loop out₀ at text here₀ i₀ out here i = length text - i
 
--- src/writing.rt:24:5
 loop-holds : tie.Need-loop-holds Inv-loop μ-loop
 loop-holds c = (search needs, left-all _ _ _)
 
--- src/writing.rt:25:31
 shared-slice-read-put : tie.Need-shared-slice-read-put Inv-loop μ-loop
 shared-slice-read-put c = search needs
 
--- src/writing.rt:25:9
 put-requires : tie.Need-put-requires Inv-loop μ-loop
 put-requires c κs =
     let L = c .before .before .before in
     omega (arith, length-drop (L .loop .i) (L .before .before .before .args .text .now))
 
--- src/writing.rt:26:9
 add-i : tie.Need-add-i Inv-loop μ-loop
 add-i c = search needs
 
--- src/writing.rt:24:5
 loop-less : tie.Need-loop-less Inv-loop μ-loop
 loop-less c = search needs
 
--- src/writing.rt:24:5
 loop-again : tie.Need-loop-again Inv-loop μ-loop
 loop-again c =
     let L = c .before .before .before .before .before .before in
     (search needs, left-less (L .loop .inv .1) (byte-ahead (L .before .before .before .args .text .now) (L .loop .i) (search needs)) (c .before .before .put .ensures))
 
--- src/writing.rt:18:1
 same-length : tie.Need-same-length Inv-loop μ-loop
 same-length c = left-length (c .before .loop .inv .1)
 
--- src/writing.rt:18:1
 returns : tie.Need-returns Inv-loop μ-loop
 returns c =
     let L = c .before in

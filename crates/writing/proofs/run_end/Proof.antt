@@ -11,51 +11,39 @@ Inv-loop cells lo to hi₀ hi = Lasts cells lo hi
 abbrev μ-loop : tie.MeasureT-loop
 μ-loop cells lo to hi₀ hi = length cells - hi
 
--- src/runs.rt:11:14
 mul-to : tie.Need-mul-to Inv-loop μ-loop
 mul-to c = search needs
 
--- src/runs.rt:11:14
 shared-slice-read-to : tie.Need-shared-slice-read-to Inv-loop μ-loop
 shared-slice-read-to c = search needs
 
--- src/runs.rt:13:5
 loop-holds : tie.Need-loop-holds Inv-loop μ-loop
 loop-holds c = lasts-one _ _ (search needs)
 
--- src/runs.rt:13:11
 add-loop : tie.Need-add-loop Inv-loop μ-loop
 add-loop c = search needs
 
--- src/runs.rt:14:18
 add-if1 : tie.Need-add-if1 Inv-loop μ-loop
 add-if1 c = search needs
 
--- src/runs.rt:14:12
 mul-if1 : tie.Need-mul-if1 Inv-loop μ-loop
 mul-if1 c = search needs
 
--- src/runs.rt:14:12
 shared-slice-read-if1 : tie.Need-shared-slice-read-if1 Inv-loop μ-loop
 shared-slice-read-if1 c = search needs
 
--- src/runs.rt:15:13
 returns : tie.Need-returns Inv-loop μ-loop
 returns c = ends-inside _ (c .before .before .before .loop .inv) (search needs) (c .if1 .taken)
 
--- src/runs.rt:17:9
 add-hi : tie.Need-add-hi Inv-loop μ-loop
 add-hi c = search needs
 
--- src/runs.rt:13:5
 loop-less : tie.Need-loop-less Inv-loop μ-loop
 loop-less c = search needs
 
--- src/runs.rt:13:5
 loop-again : tie.Need-loop-again Inv-loop μ-loop
 loop-again c = lasts-more _ (c .before .before .before .loop .inv) (search needs) (c .if1 .left)
 
--- src/runs.rt:7:1
 returns-2 : tie.Need-returns-2 Inv-loop μ-loop
 returns-2 c = ends-last _ (c .before .loop .inv) (search needs)
 

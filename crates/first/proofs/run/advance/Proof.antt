@@ -22,63 +22,48 @@ inside c = omega (arith, kept-few (c .before .before .before .before .before .pr
 row : (c : tie.In-loop Inv-loop μ-loop) → getD (c .before .loop .rows) (c .before .loop .i) 0 < c .before .before .before .before .before .args .known .count
 row c = omega (arith, c .before .loop .inv .rest (c .before .loop .i) (omega arith) .0, c .before .before .before .before .before .pre .1 .0 .below (c .before .loop .i) (c .loop-test .taken))
 
--- src/run.rt:78:5
 loop-holds : tie.Need-loop-holds Inv-loop μ-loop
 loop-holds c = running-none _ _ _ _ _ _ (c .before .before .before .pre .1 .0)
 
--- src/run.rt:79:17
 mul-q : tie.Need-mul-q Inv-loop μ-loop
 mul-q c = omega (arith, inside c)
 
--- src/run.rt:79:17
 element-copy-out-q : tie.Need-element-copy-out-q Inv-loop μ-loop
 element-copy-out-q c = inside c
 
--- src/run.rt:80:20
 mul-from : tie.Need-mul-from Inv-loop μ-loop
 mul-from c = omega (arith, inside (c .before))
 
--- src/run.rt:80:20
 element-copy-out-from : tie.Need-element-copy-out-from Inv-loop μ-loop
 element-copy-out-from c = inside (c .before)
 
--- src/run.rt:81:9
 carry-requires : tie.Need-carry-requires Inv-loop μ-loop
 carry-requires c κs = (c .before .before .before .before .before .before .before .before .before .before .pre .0, (c .before .before .before .before .before .before .loop .inv .kept, (row (c .before .before .before .before .before), c .before .before .before .before .before .before .before .before .before .before .pre .1 .1)))
 
--- src/run.rt:82:35
 cast-ends-here : tie.Need-cast-ends-here Inv-loop μ-loop
 cast-ends-here c = omega (arith, row (c .before .before .before .before .before .before), c .before .before .before .before .before .before .before .before .before .before .before .pre .0 .well .few-rows)
 
--- src/run.rt:82:29
 shared-slice-read-ends-here : tie.Need-shared-slice-read-ends-here Inv-loop μ-loop
 shared-slice-read-ends-here c = omega (arith, row (c .before .before .before .before .before .before .before), c .before .before .before .before .before .before .before .before .before .before .before .before .pre .0 .well .formed .marks-long)
 
--- src/run.rt:82:12
 ends-here-requires : tie.Need-ends-here-requires Inv-loop μ-loop
 ends-here-requires c κs = search needs
 
--- src/run.rt:85:42
 cast-t30 : tie.Need-cast-t30 Inv-loop μ-loop
 cast-t30 c = omega (arith, c .before .before .before .before .before .before .before .before .before .before .before .before .before .before .pre .1 .1, c .before .before .before .before .before .before .before .before .before .before .before .before .before .before .pre .0 .short)
 
--- src/run.rt:83:13
 returns : tie.Need-returns Inv-loop μ-loop
 returns c = running-hit _ _ _ _ _ _ (c .before .before .before .before .before .before .before .before .before .before .loop .inv) (c .before .before .before .before .before .before .before .before .before .loop-test .taken) (c .before .before .before .before .before .before .before .before .before .before .before .before .before .before .pre .1 .1) refl refl (c .before .before .before .carry .ensures) (c .before .before .before .before .before .before .before .before .before .before .before .before .before .before .args .best) (sym (c .before .ends-here .ensures) ∙ c .if1 .taken)
 
--- src/run.rt:88:9
 add-i : tie.Need-add-i Inv-loop μ-loop
 add-i c = omega (arith, inside (c .before .before .before .before .before .before .before .before .before))
 
--- src/run.rt:78:5
 loop-less : tie.Need-loop-less Inv-loop μ-loop
 loop-less c = search needs
 
--- src/run.rt:78:5
 loop-again : tie.Need-loop-again Inv-loop μ-loop
 loop-again c = running-more _ _ _ _ _ _ (c .before .before .before .before .before .before .before .before .before .before .loop .inv) (c .before .before .before .before .before .before .before .before .before .loop-test .taken) (c .before .before .before .before .before .before .before .before .before .before .before .before .before .before .pre .1 .1) refl refl (c .before .before .before .carry .ensures) (sym (c .before .ends-here .ensures) ∙ c .if1 .left)
 
--- src/run.rt:71:1
 returns-2 : tie.Need-returns-2 Inv-loop μ-loop
 returns-2 c = running-all _ _ _ _ _ _ (c .before .before .before .before .before .args .best) (c .before .loop .inv) (c .loop-test .left)
 

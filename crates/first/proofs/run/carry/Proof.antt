@@ -13,15 +13,12 @@ inside c =
     let b = getD (A .text .now) (A .p) 0 in
     omega (arith, c .step .ensures, c .before .before .before .before .before .pre .0 .well .formed .cells-rows (256 * A .q .0 + b) (omega (arith, c .before .shared-slice-known4 .given (A .p))))
 
--- src/run.rt:65:9
 returns : tie.Need-returns
 returns c = carried-dead _ _ (c .before .before .before .before .before .before .before .before .before .pre .1 .0) (c .before .before .before .before .before .before .before .before .before .pre .0 .stuck (omega (arith, inside (c .before .before .before .before), c .if1 .taken))) (λ i. omega (arith, c .before .before .before .before .before .before .shared-slice-known3 .given i)) (c .before .before .before .before .step .ensures) (c .if1 .taken)
 
--- src/run.rt:67:5
 join-requires : tie.Need-join-requires
 join-requires c κs = (c .before .before .before .before .before .before .before .before .before .before .before .before .pre .1 .0, (c .before .before .before .before .before .before .before .before .before .before .before .before .pre .0 .well .few-rows, inside (c .before .before .before .before .before .before .before)))
 
--- src/run.rt:56:1
 returns-2 : tie.Need-returns-2
 returns-2 c = carried-joined _ _ (c .join .ensures) (c .before .before .before .before .before .before .before .before .step .ensures)
 

@@ -21,59 +21,45 @@ inside c = omega (arith, kept-few (c .before .before .before .before .before .pr
 closing : (c : tie.At-loop Inv-loop μ-loop) → let A = c .before .before .before .before .args in Closing (lent (A .known) (A .marks .now) (A .cells .now)) (A .text .now) (A .rows .now) (A .froms .now) (A .len) (A .best) (c .loop .i)
 closing c = let A = c .before .before .before .before .args in c .loop .inv (A .known .count) (A .known .head .0)
 
--- src/run.rt:103:5
 loop-holds : tie.Need-loop-holds Inv-loop μ-loop
 loop-holds c = λ n h. closing-none _ _ _ _ _ _
 
--- src/run.rt:104:17
 mul-q : tie.Need-mul-q Inv-loop μ-loop
 mul-q c = omega (arith, inside c)
 
--- src/run.rt:104:17
 element-copy-out-q : tie.Need-element-copy-out-q Inv-loop μ-loop
 element-copy-out-q c = inside c
 
--- src/run.rt:104:17
 cast-q : tie.Need-cast-q Inv-loop μ-loop
 cast-q c = omega (arith, c .before .before .before .before .before .before .pre .1 .below (c .before .before .loop .i) (c .before .loop-test .taken), c .before .before .before .before .before .before .pre .0 .well .few-rows)
 
--- src/run.rt:105:29
 shared-slice-read-ends-here : tie.Need-shared-slice-read-ends-here Inv-loop μ-loop
 shared-slice-read-ends-here c = omega (arith, c .before .before .before .before .before .before .before .pre .1 .below (c .before .before .before .loop .i) (c .before .before .loop-test .taken), c .before .before .before .before .before .before .before .pre .0 .well .formed .marks-long)
 
--- src/run.rt:105:12
 ends-here-requires : tie.Need-ends-here-requires Inv-loop μ-loop
 ends-here-requires c κs = search needs
 
--- src/run.rt:106:33
 mul-t20 : tie.Need-mul-t20 Inv-loop μ-loop
 mul-t20 c = omega (arith, inside (c .before .before .before .before))
 
--- src/run.rt:106:33
 element-copy-out-t23 : tie.Need-element-copy-out-t23 Inv-loop μ-loop
 element-copy-out-t23 c = inside (c .before .before .before .before)
 
--- src/run.rt:106:43
 cast-t25 : tie.Need-cast-t25 Inv-loop μ-loop
 cast-t25 c = omega (arith, c .before .before .before .before .before .before .before .before .before .before .pre .0 .short)
 
--- src/run.rt:106:13
 returns : tie.Need-returns Inv-loop μ-loop
 returns c = closing-hit _ _ _ _ _ _ (closing (c .before .before .before .before .before .before)) (c .before .before .before .before .before .loop-test .taken) (sym (c .before .before .ends-here .ensures) ∙ c .before .if1 .taken)
 
--- src/run.rt:108:9
 add-i : tie.Need-add-i Inv-loop μ-loop
 add-i c = omega (arith, inside (c .before .before .before .before))
 
--- src/run.rt:103:5
 loop-less : tie.Need-loop-less Inv-loop μ-loop
 loop-less c = search needs
 
--- src/run.rt:103:5
 loop-again : tie.Need-loop-again Inv-loop μ-loop
 loop-again c = λ n h. closing-more _ _ _ _ _ _ (c .before .before .before .before .before .loop .inv n h) (c .before .before .before .before .loop-test .taken) (sym (c .before .ends-here .ensures) ∙ c .if1 .left)
 
--- src/run.rt:97:1
 returns-2 : tie.Need-returns-2 Inv-loop μ-loop
 returns-2 c = closing-all _ _ _ _ _ _ (closing (c .before)) (c .loop-test .left)
 

@@ -8,31 +8,24 @@ use Rattle.first.proofs.run.join.Tie as tie
 room : (c : tie.Else1) → c .before .before .before .args .len < 1024
 room c = omega (arith, kept-room (c .before .before .before .pre .0) (c .before .before .before .pre .1 .1) (c .if1 .left))
 
--- src/run.rt:32:9
 returns : tie.Need-returns
 returns c = joined-old (c .before .before .before .pre .0) (c .before .before .before .pre .1 .1) (c .before .before .before .args .from) (c .if1 .taken)
 
--- src/run.rt:35:5
 mul-rows : tie.Need-mul-rows
 mul-rows c = omega (arith, room c)
 
--- src/run.rt:35:5
 element-write-rows : tie.Need-element-write-rows
 element-write-rows c = room c
 
--- src/run.rt:36:5
 mul-froms : tie.Need-mul-froms
 mul-froms c = omega (arith, room c)
 
--- src/run.rt:36:5
 element-write-froms : tie.Need-element-write-froms
 element-write-froms c = room c
 
--- src/run.rt:37:5
 add-result : tie.Need-add-result
 add-result c = omega (arith, room c)
 
--- src/run.rt:25:1
 returns-2 : tie.Need-returns-2
 returns-2 c = joined-new (c .before .before .before .pre .0) (c .before .before .before .pre .1 .1) (c .if1 .left) (c .before .before .before .args .from)
 

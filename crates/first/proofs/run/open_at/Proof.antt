@@ -4,16 +4,13 @@ use borrow.Author.Needs.{needs}
 use Rattle.first.proofs.run.open_at.Statement.{statement}
 use Rattle.first.proofs.run.open_at.Tie as tie
 
--- src/run.rt:50:13
 join-requires : tie.Need-join-requires
 join-requires c κs = let A = c .before .before .before .before .before .before .before .before .before .args in
     (c .before .before .before .before .before .before .before .before .before .pre .1 .0, (c .before .before .before .before .before .before .before .before .before .pre .0 .well .few-rows, read-none (c .before .before .before .before .before .before .before .before .before .pre .0 .well .formed) (A .text .now) (A .p) (c .before .before .before .before .before .before .before .before .before .pre .1 .1) (c .before .before .before .begin .ensures (A .marks .now) (A .cells .now)) .row))
 
--- src/run.rt:41:1
 returns : tie.Need-returns
 returns c = opened-shut _ _ (c .before .before .before .before .before .pre .1 .0) (c .enum-told .given .1)
 
--- src/run.rt:41:1
 returns-2 : tie.Need-returns-2
 returns-2 c = opened-new _ _ (c .join .ensures) (c .before .before .before .before .before .enum-told2 .given .1) (c .before .before .before .before .before .before .before .before .before .before .pre .1 .1) (c .before .before .before .before .begin .ensures (c .before .before .before .before .before .before .before .before .before .before .args .marks .now) (c .before .before .before .before .before .before .before .before .before .before .args .cells .now))
 

@@ -19,44 +19,34 @@ abbrev μ-loop : tie.MeasureT-loop
 at-end : (c : tie.After-loop Inv-loop μ-loop) → c .before .loop .p ≡ length (c .before .before .before .before .before .args .text .now)
 at-end c = omega arith
 
--- src/run.rt:124:5
 loop-holds : tie.Need-loop-holds Inv-loop μ-loop
 loop-holds c = (c .before .before .before .pre .1, (kept-none _ _ _ (c .before .before .before .pre .0 .well .few-rows) (c .before .before .before .pre .0 .well .few-rows) (c .before .before .before .pre .0 .well .few-rows) (λ q l. omega (arith, getD-replicate {A = ℕ} 1024 q 0 0 (omega arith))), outcome-none _ _ _ _ _))
 
--- src/run.rt:125:9
 open-at-requires : tie.Need-open-at-requires Inv-loop μ-loop
 open-at-requires c κs = (c .before .before .before .before .before .before .before .before .pre .0, (c .before .before .before .before .loop .inv .1 .0, omega arith))
 
--- src/run.rt:127:13
 returns : tie.Need-returns Inv-loop μ-loop
 returns c = opened-over _ _ (c .before .open-at .ensures) (c .before .before .before .before .before .before .loop .inv .1 .1) (c .if1 .taken)
 
--- src/run.rt:129:13
 advance-requires : tie.Need-advance-requires Inv-loop μ-loop
 advance-requires c κs = (c .before .before .before .before .before .before .before .before .before .before .before .before .before .pre .0, (c .before .before .before .before .open-at .ensures .kept, c .before .before .before .before .before .before .before .before .loop-test .taken))
 
--- src/run.rt:132:9
 add-p : tie.Need-add-p Inv-loop μ-loop
 add-p c = search needs
 
--- src/run.rt:124:5
 loop-less : tie.Need-loop-less Inv-loop μ-loop
 loop-less c = search needs
 
--- src/run.rt:124:5
 loop-again : tie.Need-loop-again Inv-loop μ-loop
 loop-again c = (omega arith, (c .advance .ensures .kept, c .before .before .before .before .before .before .before .before .before .before .loop .inv .1 .1 ∙ sym (c .advance .ensures .same ∙ c .before .before .before .before .before .open-at .ensures .same)))
 
--- src/run.rt:134:5
 open-at-requires-2 : tie.Need-open-at-requires-2 Inv-loop μ-loop
 open-at-requires-2 c κs = (c .before .before .before .before .before .before .before .before .pre .0, (c .before .before .before .before .loop .inv .1 .0, c .before .before .before .before .loop .inv .0))
 
--- src/run.rt:135:5
 close-at-end-requires : tie.Need-close-at-end-requires Inv-loop μ-loop
 close-at-end-requires c κs = let o = c .before .before .before .open-at2 in
     (c .before .before .before .before .before .before .before .before .before .before .before .before .pre .0, subst (λ (n : ℕ). Kept (c .before .before .before .before .before .before .before .before .before .before .before .before .args .known .count) (o .last .1 .1 .1 .1 .0) (o .last .1 .1 .1 .1 .1 .0) (o .last .1 .1 .1 .1 .1 .1 .0) (o .result) (n + 1)) (at-end (c .before .before .before .before .before .before .before)) (o .ensures .kept))
 
--- src/run.rt:113:1
 returns-2 : tie.Need-returns-2 Inv-loop μ-loop
 returns-2 c = let A = c .before .before .before .before .before .before .before .before .before .before .before .before .before .args in
     let o = c .before .before .before .before .open-at2 in

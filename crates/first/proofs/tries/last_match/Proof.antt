@@ -25,58 +25,45 @@ ending c =
     let A = c .before .before .before .before .before .before .args in
     c .loop .inv (A .known .count) (A .known .head .0) (c .before .before .before .before .before .before .pre .0 .well) (c .before .begin .ensures (A .marks .now) (A .cells .now)) (c .before .before .before .before .before .before .pre .1)
 
--- src/tries.rt:58:16
 cast-from : tie.Need-cast-from Inv-loop μ-loop
 cast-from c = omega (arith, c .before .before .before .pre .0 .short, c .before .before .before .pre .1)
 
--- src/tries.rt:60:9
 begin-requires : tie.Need-begin-requires Inv-loop μ-loop
 begin-requires c κs = search needs
 
--- src/tries.rt:63:5
 loop-holds : tie.Need-loop-holds Inv-loop μ-loop
 loop-holds c = λ n h g e i. ending-none g i e
 
--- src/tries.rt:65:13
 returns : tie.Need-returns Inv-loop μ-loop
 returns c = ending-dead (c .before .before .before .before .before .before .before .before .before .before .pre .0 .well) (ending (c .before .before .before .before)) (c .before .before .before .before .before .before .before .before .before .before .pre .0 .stuck) (λ i. omega (arith, c .before .before .before .before .before .before .before .shared-slice-known3 .given i)) (c .if1 .taken)
 
--- src/tries.rt:67:35
 cast-ends-here : tie.Need-cast-ends-here Inv-loop μ-loop
 cast-ends-here c = search needs
 
--- src/tries.rt:67:29
 shared-slice-read-ends-here : tie.Need-shared-slice-read-ends-here Inv-loop μ-loop
 shared-slice-read-ends-here c = let o = ending (c .before .before .before .before .before .before) in
     omega (arith, o .row, c .before .before .before .before .before .before .before .before .before .before .before .before .pre .0 .well .formed .marks-long)
 
--- src/tries.rt:67:12
 ends-here-requires : tie.Need-ends-here-requires Inv-loop μ-loop
 ends-here-requires c κs = search needs
 
--- src/tries.rt:68:39
 cast-t16 : tie.Need-cast-t16 Inv-loop μ-loop
 cast-t16 c = let o = ending (c .before .before .before .before .before .before .before .before) in
     omega (arith, c .before .before .before .before .before .before .before .before .before .before .before .before .before .before .pre .0 .short, o .within)
 
--- src/tries.rt:70:39
 shared-slice-read-step : tie.Need-shared-slice-read-step Inv-loop μ-loop
 shared-slice-read-step c = search needs
 
--- src/tries.rt:70:9
 step-requires : tie.Need-step-requires Inv-loop μ-loop
 step-requires c κs = let o = ending (c .before .before .before .before .before .before .before .before .before) in
     omega (arith, o .row, c .before .before .before .before .before .before .before .before .before .before .before .before .before .before .before .pre .0 .well .formed .cells-long)
 
--- src/tries.rt:71:9
 add-p : tie.Need-add-p Inv-loop μ-loop
 add-p c = search needs
 
--- src/tries.rt:63:5
 loop-less : tie.Need-loop-less Inv-loop μ-loop
 loop-less c = search needs
 
--- src/tries.rt:63:5
 loop-again : tie.Need-loop-again Inv-loop μ-loop
 loop-again c = λ n h g e i.
     let o = c .before .before .before .before .before .before .before .before .before .before .loop .inv n h g e i in
@@ -86,29 +73,23 @@ loop-again c = λ n h g e i.
     (λ x. ending-more g o (c .before .before .before .before .before .before .before .before .before .loop-test .taken) (omega (arith, b)) (c .step .ensures) false (sym (c .before .before .before .ends-here .ensures) ∙ x .0 .left) (ap foundOf (x .1)))
     (c .before .before .if2 .came)
 
--- src/tries.rt:73:31
 cast-ends-here-2 : tie.Need-cast-ends-here-2 Inv-loop μ-loop
 cast-ends-here-2 c = search needs
 
--- src/tries.rt:73:25
 shared-slice-read-ends-here-2 : tie.Need-shared-slice-read-ends-here-2 Inv-loop μ-loop
 shared-slice-read-ends-here-2 c = let o = ending (c .before .before .before) in
     omega (arith, o .row, c .before .before .before .before .before .before .before .before .before .pre .0 .well .formed .marks-long)
 
--- src/tries.rt:73:8
 ends-here-requires-2 : tie.Need-ends-here-requires-2 Inv-loop μ-loop
 ends-here-requires-2 c κs = search needs
 
--- src/tries.rt:74:35
 cast-t22 : tie.Need-cast-t22 Inv-loop μ-loop
 cast-t22 c = let o = ending (c .before .before .before .before .before) in
     omega (arith, c .before .before .before .before .before .before .before .before .before .before .before .pre .0 .short, o .within)
 
--- src/tries.rt:53:1
 returns-2 : tie.Need-returns-2 Inv-loop μ-loop
 returns-2 c = ending-end (c .before .before .before .before .before .before .before .before .before .before .before .pre .0 .well) (ending (c .before .before .before .before .before)) (c .before .before .before .before .loop-test .left) true (sym (c .before .ends-here2 .ensures) ∙ c .if3 .taken)
 
--- src/tries.rt:53:1
 returns-3 : tie.Need-returns-3 Inv-loop μ-loop
 returns-3 c = ending-end (c .before .before .before .before .before .before .before .before .before .before .before .pre .0 .well) (ending (c .before .before .before .before .before)) (c .before .before .before .before .loop-test .left) false (sym (c .before .ends-here2 .ensures) ∙ c .if3 .left)
 

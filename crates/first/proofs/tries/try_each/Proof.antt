@@ -32,19 +32,15 @@ passed c =
     let A = c .before .before .before .before .before .before .before .before .before .before .args in
     c .before .before .before .before .before .loop .inv .1 .1 .1 ∙ first-skip (lent (A .known) (A .marks .now) (A .cells .now)) (A .text .now) (c .before .before .before .before .loop-test .taken) (sym (answer (c .before)) ∙ c .if1 .left)
 
--- src/tries.rt:25:17
 flags-at-end-requires : tie.Need-flags-at-end-requires Inv-loop μ-loop
 flags-at-end-requires c κs = c .before .before .before .pre .well
 
--- src/tries.rt:28:5
 loop-holds : tie.Need-loop-holds Inv-loop μ-loop
 loop-holds c = (refl, (omega arith, (omega arith, first-all _ _)))
 
--- src/tries.rt:29:13
 begin-requires : tie.Need-begin-requires Inv-loop μ-loop
 begin-requires c κs = search needs
 
--- src/tries.rt:30:13
 look-requires : tie.Need-look-requires Inv-loop μ-loop
 look-requires c κs = let A = c .before .before .before .before .before .before .before .before .args in (
   c .before .before .before .before .before .before .before .before .pre,
@@ -56,35 +52,27 @@ look-requires c κs = let A = c .before .before .before .before .before .before 
   },
 )
 
--- src/tries.rt:32:13
 returns : tie.Need-returns Inv-loop μ-loop
 returns c = record { past = c .before .before .before .before .before .loop .inv .1 .1 .1; within = omega arith; hit = λ _. (c .before .before .before .before .loop-test .taken, sym (answer (c .before)) ∙ c .if1 .taken) }
 
--- src/tries.rt:37:9
 add-s : tie.Need-add-s Inv-loop μ-loop
 add-s c = omega (arith, c .before .before .before .before .before .before .before .before .before .before .pre .short, c .before .before .before .before .loop-test .taken)
 
--- src/tries.rt:38:9
 add-spent : tie.Need-add-spent Inv-loop μ-loop
 add-spent c = omega (arith, c .before .before .look .ensures .few, c .before .before .before .before .before .before .before .before .before .before .before .pre .short)
 
--- src/tries.rt:39:12
 mul-if2 : tie.Need-mul-if2 Inv-loop μ-loop
 mul-if2 c = omega (arith, c .before .before .before .before .before .before .before .before .before .before .before .pre .short)
 
--- src/tries.rt:40:13
 returns-2 : tie.Need-returns-2 Inv-loop μ-loop
 returns-2 c = record { past = passed (c .before .before); within = omega arith; hit = λ e. absurd (true≢false (sym e)) }
 
--- src/tries.rt:28:5
 loop-less : tie.Need-loop-less Inv-loop μ-loop
 loop-less c = search needs
 
--- src/tries.rt:28:5
 loop-again : tie.Need-loop-again Inv-loop μ-loop
 loop-again c = (refl, (omega arith, (c .if2 .left, passed (c .before .before))))
 
--- src/tries.rt:20:1
 returns-3 : tie.Need-returns-3 Inv-loop μ-loop
 returns-3 c = record { past = c .before .loop .inv .1 .1 .1; within = c .before .loop .inv .1 .0; hit = λ e. absurd (true≢false (sym e)) }
 

@@ -19,56 +19,45 @@ Inv-loop rows cells marks text flags₀ to₀ spent₀ count₀ s₀ flags to sp
 abbrev μ-loop : tie.MeasureT-loop
 μ-loop rows cells marks text flags₀ to₀ spent₀ count₀ s₀ flags to spent count s = s
 
--- src/back.rt:49:21
 flags-at-end-requires : tie.Need-flags-at-end-requires Inv-loop μ-loop
 flags-at-end-requires c κs = c .before .before .before .pre .well
 
--- src/back.rt:53:17
 add-s : tie.Need-add-s Inv-loop μ-loop
 add-s c = search needs
 
--- src/back.rt:54:5
 loop-holds : tie.Need-loop-holds Inv-loop μ-loop
 loop-holds c = let A = c .before .before .before .before .args in (
   record { come = omega arith; inside = omega arith; cheap = omega arith; flagged = flags-end (A .text .now) (c .flags-at-end .ensures) },
   sym (ap length (starts-none (lent (A .rows) (A .marks .now) (A .cells .now)) (A .text .now))),
 )
 
--- src/back.rt:55:9
 sub-s : tie.Need-sub-s Inv-loop μ-loop
 sub-s c = search needs
 
--- src/back.rt:56:13
 look-back-requires : tie.Need-look-back-requires Inv-loop μ-loop
 look-back-requires c κs = let P = c .before .before .loop .inv .0 in
     (c .before .before .before .before .before .before .before .pre, (record { come = omega arith; inside = P .inside; cheap = P .cheap; flagged = P .flagged }, omega arith))
 
--- src/back.rt:60:13
 add-count : tie.Need-add-count Inv-loop μ-loop
 add-count c = let A = c .before .before .before .before .before .before .before .before .before .args in
     omega (arith, starts-few (lent (A .rows) (A .marks .now) (A .cells .now)) (A .text .now) (c .before .before .before .before .loop .s))
 
--- src/back.rt:54:5
 loop-less : tie.Need-loop-less Inv-loop μ-loop
 loop-less c = search needs
 
--- src/back.rt:54:5
 loop-again : tie.Need-loop-again Inv-loop μ-loop
 loop-again c = let A = c .before .before .before .before .before .before .before .before .before .args in
     let e = starts-back (lent (A .rows) (A .marks .now) (A .cells .now)) (A .text .now) (c .before .before .before .before .loop .s) true (c .before .before .before .loop-test .taken) (omega arith) (sym (c .before .look-back .ensures .answer) ∙ c .if1 .taken) in
     (c .before .look-back .ensures .pass, omega (arith, ap length e))
 
--- src/back.rt:54:5
 loop-less-2 : tie.Need-loop-less-2 Inv-loop μ-loop
 loop-less-2 c = search needs
 
--- src/back.rt:54:5
 loop-again-2 : tie.Need-loop-again-2 Inv-loop μ-loop
 loop-again-2 c = let A = c .before .before .before .before .before .before .before .before .before .args in
     let e = starts-back (lent (A .rows) (A .marks .now) (A .cells .now)) (A .text .now) (c .before .before .before .before .loop .s) false (c .before .before .before .loop-test .taken) (omega arith) (sym (c .before .look-back .ensures .answer) ∙ c .if1 .left) in
     (c .before .look-back .ensures .pass, omega (arith, ap length e))
 
--- src/back.rt:45:1
 returns : tie.Need-returns Inv-loop μ-loop
 returns c = let A = c .before .before .before .before .before .before .args in
     let w = lent (A .rows) (A .marks .now) (A .cells .now) in

@@ -34,15 +34,12 @@ room c =
     let A = c .before .before .before .before .before .before .before .before .before .before .args in
     omega (arith, ap length (one c), starts-less (lent (A .rows) (A .marks .now) (A .cells .now)) (A .text .now) (c .before .before .before .before .loop .s - 1) (omega arith), c .before .before .before .before .before .before .before .before .before .before .pre .1)
 
--- src/back.rt:73:21
 flags-at-end-requires : tie.Need-flags-at-end-requires Inv-loop μ-loop
 flags-at-end-requires c κs = c .before .before .before .before .pre .0 .well
 
--- src/back.rt:77:17
 add-s : tie.Need-add-s Inv-loop μ-loop
 add-s c = search needs
 
--- src/back.rt:78:5
 loop-holds : tie.Need-loop-holds Inv-loop μ-loop
 loop-holds c = let A = c .before .before .before .before .before .args in (
   record { come = omega arith; inside = omega arith; cheap = omega arith; flagged = flags-end (A .text .now) (c .flags-at-end .ensures) },
@@ -55,36 +52,28 @@ loop-holds c = let A = c .before .before .before .before .before .args in (
   ),
 )
 
--- src/back.rt:79:9
 sub-s : tie.Need-sub-s Inv-loop μ-loop
 sub-s c = search needs
 
--- src/back.rt:80:13
 look-back-requires : tie.Need-look-back-requires Inv-loop μ-loop
 look-back-requires c κs = let P = c .before .before .loop .inv .0 in
     (c .before .before .before .before .before .before .before .before .pre .0, (record { come = omega arith; inside = P .inside; cheap = P .cheap; flagged = P .flagged }, omega arith))
 
--- src/back.rt:84:27
 cast-list : tie.Need-cast-list Inv-loop μ-loop
 cast-list c = search needs
 
--- src/back.rt:84:13
 mul-list : tie.Need-mul-list Inv-loop μ-loop
 mul-list c = omega (arith, room c)
 
--- src/back.rt:84:13
 slice-write-list : tie.Need-slice-write-list Inv-loop μ-loop
 slice-write-list c = room c
 
--- src/back.rt:85:13
 add-count : tie.Need-add-count Inv-loop μ-loop
 add-count c = omega (arith, room c)
 
--- src/back.rt:78:5
 loop-less : tie.Need-loop-less Inv-loop μ-loop
 loop-less c = search needs
 
--- src/back.rt:78:5
 loop-again : tie.Need-loop-again Inv-loop μ-loop
 loop-again c = let A = c .before .before .before .before .before .before .before .before .before .before .args in
     let L = c .before .before .before .before .loop in
@@ -102,22 +91,18 @@ loop-again c = let A = c .before .before .before .before .before .before .before
       ),
     )
 
--- src/back.rt:78:5
 loop-less-2 : tie.Need-loop-less-2 Inv-loop μ-loop
 loop-less-2 c = search needs
 
--- src/back.rt:78:5
 loop-again-2 : tie.Need-loop-again-2 Inv-loop μ-loop
 loop-again-2 c = let A = c .before .before .before .before .before .before .before .before .before .before .args in
     let L = c .before .before .before .before .loop in
     let e = starts-back (lent (A .rows) (A .marks .now) (A .cells .now)) (A .text .now) (L .s) false (c .before .before .before .loop-test .taken) (omega arith) (sym (c .before .look-back .ensures .answer) ∙ c .if1 .left) in
     (c .before .look-back .ensures .pass, (L .inv .1 .0 ∙ sym (ap length e), (L .inv .1 .1 .0, L .inv .1 .1 .1 ∙ ap (λ (x : List ℕ). reverse x ++ drop (L .count) (A .list .now)) (sym e))))
 
--- src/back.rt:67:1
 same-length : tie.Need-same-length Inv-loop μ-loop
 same-length c = search needs
 
--- src/back.rt:67:1
 returns : tie.Need-returns Inv-loop μ-loop
 returns c = let A = c .before .before .before .before .before .before .before .args in
     let w = lent (A .rows) (A .marks .now) (A .cells .now) in

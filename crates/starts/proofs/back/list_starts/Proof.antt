@@ -10,16 +10,13 @@ use borrow.Author.Needs.{needs}
 use Rattle.starts.proofs.back.list_starts.Statement.{statement}
 use Rattle.starts.proofs.back.list_starts.Tie as tie
 
--- src/back.rt:115:10
 slice-aggregate-turn : tie.Need-slice-aggregate-turn
 slice-aggregate-turn c = sym (length-take-le _ _ (search needs))
 
--- src/back.rt:116:5
 cast-result : tie.Need-cast-result
 cast-result c = let A = c .before .before .before .before .before .before .before .before .before .before .before .before .args in
     omega (arith, c .before .before .before .before .before .before .list-back .ensures .0, starts-most (lent (A .rows) (A .marks .now) (A .cells .now)) (A .text .now), c .before .before .before .before .before .before .before .before .before .before .before .before .pre .0 .short)
 
--- src/back.rt:108:1
 returns : tie.Need-returns
 returns c = let A = c .before .before .before .before .before .before .before .before .before .before .before .before .args in
     let r = c .before .before .before .before .before .before .list-back in

@@ -14,7 +14,6 @@ use Rattle.starts.proofs.back.look_back.Tie as tie
 bounded : {a b : ℕ} → a ≤ rowsMost → b ≤ textMost → a * b ≤ rowsMost * textMost
 bounded h i = mul-le-mul h i
 
--- src/back.rt:25:9
 look-requires : tie.Need-look-requires
 look-requires c κs = (
   c .before .before .before .before .before .pre .0,
@@ -26,19 +25,15 @@ look-requires c κs = (
   },
 )
 
--- src/back.rt:26:15
 add-sum : tie.Need-add-sum
 add-sum c = omega (arith, c .before .look .ensures .few)
 
--- src/back.rt:27:8
 mul-if1 : tie.Need-mul-if1
 mul-if1 c = omega (arith, bounded {a = c .before .before .before .before .before .before .before .before .args .rows .count} {b = c .before .before .before .before .before .before .before .before .args .to - c .before .before .before .before .before .before .before .before .args .s} (omega arith) (omega arith))
 
--- src/back.rt:28:13
 flags-before-requires : tie.Need-flags-before-requires
 flags-before-requires c κs = (c .before .before .before .before .before .before .before .before .before .before .pre .0, record { row = omega arith; forward = c .before .before .before .before .before .before .before .before .before .before .pre .1 .1; inside = c .before .before .before .before .before .before .before .before .before .before .pre .1 .0 .inside; flagged = c .before .before .before .before .before .before .before .before .before .before .pre .1 .0 .flagged })
 
--- src/back.rt:30:9
 returns : tie.Need-returns
 returns c = let A = c .before .before .before .before .before .before .before .before .before .before .before .args in
     let w = lent (A .rows) (A .marks .now) (A .cells .now) in
@@ -48,7 +43,6 @@ returns c = let A = c .before .before .before .before .before .before .before .b
       pass = record { come = omega arith; inside = omega (arith, c .before .before .before .before .before .before .before .before .before .before .before .pre .1 .1, c .before .before .before .before .before .before .before .before .before .before .before .pre .1 .0 .inside); cheap = omega arith; flagged = c .flags-before .ensures };
     }
 
--- src/back.rt:19:1
 returns-2 : tie.Need-returns-2
 returns-2 c = let A = c .before .before .before .before .before .before .before .before .before .args in
     let w = lent (A .rows) (A .marks .now) (A .cells .now) in

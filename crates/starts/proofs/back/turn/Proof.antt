@@ -12,67 +12,51 @@ Inv-loop list₀ n i₀ list i = Turned list₀ list n i
 abbrev μ-loop : tie.MeasureT-loop
 μ-loop list₀ n i₀ list i = n / 2 - i
 
--- src/back.rt:96:5
 loop-holds : tie.Need-loop-holds Inv-loop μ-loop
 loop-holds c = turned-none (c .args .list .now)
 
--- src/back.rt:97:17
 sub-j : tie.Need-sub-j Inv-loop μ-loop
 sub-j c = search needs
 
--- src/back.rt:97:17
 sub-j-2 : tie.Need-sub-j-2 Inv-loop μ-loop
 sub-j-2 c = search needs
 
--- src/back.rt:98:17
 mul-x : tie.Need-mul-x Inv-loop μ-loop
 mul-x c = search needs
 
--- src/back.rt:98:17
 slice-read-x : tie.Need-slice-read-x Inv-loop μ-loop
 slice-read-x c = search needs
 
--- src/back.rt:99:17
 mul-y : tie.Need-mul-y Inv-loop μ-loop
 mul-y c = search needs
 
--- src/back.rt:99:17
 slice-read-y : tie.Need-slice-read-y Inv-loop μ-loop
 slice-read-y c = search needs
 
--- src/back.rt:100:9
 mul-list : tie.Need-mul-list Inv-loop μ-loop
 mul-list c = search needs
 
--- src/back.rt:100:9
 slice-write-list : tie.Need-slice-write-list Inv-loop μ-loop
 slice-write-list c = search needs
 
--- src/back.rt:101:9
 mul-list-2 : tie.Need-mul-list-2 Inv-loop μ-loop
 mul-list-2 c = search needs
 
--- src/back.rt:101:9
 slice-write-list-2 : tie.Need-slice-write-list-2 Inv-loop μ-loop
 slice-write-list-2 c = lt-length-set (c .before .before .before .loop .list) (c .before .before .before .loop .i) _ (omega arith)
 
--- src/back.rt:102:9
 add-i : tie.Need-add-i Inv-loop μ-loop
 add-i c = search needs
 
--- src/back.rt:96:5
 loop-less : tie.Need-loop-less Inv-loop μ-loop
 loop-less c = search needs
 
--- src/back.rt:96:5
 loop-again : tie.Need-loop-again Inv-loop μ-loop
 loop-again c = turned-more (c .before .before .before .loop .inv) (c .before .before .loop-test .taken)
 
--- src/back.rt:91:1
 same-length : tie.Need-same-length Inv-loop μ-loop
 same-length c = search needs
 
--- src/back.rt:91:1
 returns : tie.Need-returns Inv-loop μ-loop
 returns c = turned-all (c .before .loop .inv) (c .loop-test .left)
 
