@@ -3,17 +3,19 @@ use mathlib.Core.Path.{_≡_, refl, ap, _∙_}
 use mathlib.Core.Bool.{Bool, true, false}
 use mathlib.Core.List.{List, [], _∷_}
 use mathlib.Core.Option.{Option, none, some}
-use Prim.Native.Nat.{ℕ, zero, suc, _+_, _*_, _≤_, _<_}
+use Prim.Native.Nat.{ℕ, zero, suc, _+_, _*_, _-_, _≤_, _<_}
 use native.Mathlib.Decide.{decLt}
 use native.Mathlib.Omega.{arith}
+use borrow.Author.Tests.{le-leb, lt-leb}
 use lib.Dec.{leb}
 use lib.ListN.{length, getD, drop}
 use Rattle.rules.specs.Tools.{guard}
 use Rattle.rules.specs.Sizes.{countMost}
 use Rattle.rules.specs.Signs.{digit}
-use Rattle.rules.specs.Reader.{digits, number}
+use Rattle.rules.specs.Tree.{times}
+use Rattle.rules.specs.Reader.{past, digits, number}
 use Rattle.signs.specs.Answers.{firstOf, Reads}
-use Rattle.signs.specs.Counts.{limited}
+use Rattle.signs.specs.Counts.{limited, top}
 use Rattle.signs.proofs.Places.{here, at-end}
 
 -- a digit that is found stands at a place of the pattern
@@ -73,3 +75,14 @@ limited-reads p i n next e q l h = rw e (go (leb n countMost) q)
     go : (b : Bool) → number (drop i p) ≡ guard b (n, drop next p) → Reads 1 number p i (guard b (n, next))
     go true q = record { is = rw q; moves = (l, h) }
     go false q = record { is = rw q; moves = tt }
+
+-- ---- what follows `{m,`: no brace, but a number n and a brace
+
+module _ (m : ℕ) (v : List ℕ) {n : ℕ} {x y : List ℕ} (bare : past 125 v ≡ none) (read : number v ≡ some (n, x)) (ends : past 125 x ≡ some y) where
+  pub top-times : m ≤ n → some (times m (n - m), y) ≡ top m v
+  unfolding top
+  top-times h = rw (bare, read, ends, le-leb m n h) refl
+
+  pub top-wrong : n < m → none ≡ top m v
+  unfolding top
+  top-wrong h = rw (bare, read, ends, lt-leb m n h) refl

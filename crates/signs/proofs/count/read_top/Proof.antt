@@ -1,10 +1,10 @@
 -- `read_top`
 use mathlib.Core.Path.{ap}
 use native.Mathlib.Omega.{arith}
-use borrow.Author.Tests.{le-leb, lt-leb}
 use Rattle.signs.specs.Answers.{numberOf}
 use Rattle.signs.specs.Counts.{top}
 use Rattle.signs.proofs.Places.{read-some, read-none, stands, not-there}
+use Rattle.signs.proofs.CountLaws.{top-times, top-wrong}
 use borrow.Author.Needs.{needs}
 use Rattle.signs.proofs.count.read_top.Statement.{statement}
 use Rattle.signs.proofs.count.read_top.Tie as tie
@@ -20,7 +20,8 @@ returns-2 : tie.Need-returns-2
 unfolding top
 returns-2 c = let n = read-some (c .before .before .before .before .before .before .read-number .ensures) (ap numberOf (c .before .before .before .before .n .given .1)) in
     let h = c .before .before .stands-at2 .ensures .within (c .before .if2 .taken) in
-    record { is = rw (not-there (c .before .before .before .before .before .before .before .before .stands-at .ensures) (c .before .before .before .before .before .before .before .if1 .left), n .0, stands (c .before .before .stands-at2 .ensures) (c .before .if2 .taken), le-leb _ _ (c .if3 .taken)); moves = omega arith }
+    let bare = not-there (c .before .before .before .before .before .before .before .before .stands-at .ensures) (c .before .before .before .before .before .before .before .if1 .left) in
+    record { is = top-times _ _ bare (n .0) (stands (c .before .before .stands-at2 .ensures) (c .before .if2 .taken)) (omega (arith, c .if3 .taken)); moves = omega arith }
 
 returns-3 : tie.Need-returns-3
 unfolding top
@@ -29,7 +30,8 @@ returns-3 c = record { is = rw (not-there (c .before .before .before .before .st
 returns-4 : tie.Need-returns-4
 unfolding top
 returns-4 c = let n = read-some (c .before .before .before .before .before .before .read-number .ensures) (ap numberOf (c .before .before .before .before .n .given .1)) in
-    record { is = rw (not-there (c .before .before .before .before .before .before .before .before .stands-at .ensures) (c .before .before .before .before .before .before .before .if1 .left), n .0, stands (c .before .before .stands-at2 .ensures) (c .before .if2 .taken), lt-leb _ _ (c .if3 .left)); moves = tt }
+    let bare = not-there (c .before .before .before .before .before .before .before .before .stands-at .ensures) (c .before .before .before .before .before .before .before .if1 .left) in
+    record { is = top-wrong _ _ bare (n .0) (stands (c .before .before .stands-at2 .ensures) (c .before .if2 .taken)) (omega (arith, c .if3 .left)); moves = tt }
 
 returns-5 : tie.Need-returns-5
 unfolding top
