@@ -8,7 +8,7 @@ use kinds::Row;
 use merge::merge;
 use nodes::Built;
 use nodes::build;
-use reader::PROGRAM_MOST;
+use program::PROGRAM_MOST;
 use reader::Reading;
 use reader::read_pattern;
 use rows::Listed;

@@ -49,6 +49,24 @@ module _ (p : List ℕ) where
       }
   linked K k at b old new TooMany es s h = omega arith
 
+  -- in a row: X up to xe, Y up to ye, and then X's end
+  pub joined-built : (X Y : Frag) (b xe ye : ℕ) (old l₁ l₂ new : Lists)
+      → Fits p X b old l₁ xe → Fits p Y (xe + 1) l₁ l₂ ye → Puts l₂ new xe (entry 1 (xe + 1) (xe + 1) 0) → Fits p (joined X Y) b old new ye
+  joined-built X Y b xe ye old l₁ l₂ new fx fy px =
+      let qx : xe ≡ b + X .last = fx .ends in
+      let qy : xe + 1 ≡ b + size X = omega arith in
+      let still : (u : ℕ) → (u ≡ xe → ⊥) → entryAt new u ≡ entryAt l₂ u = px .others in
+      record {
+        ends = omega (arith, fy .ends);
+        low = fy .low;
+        room = px .room;
+        kept = λ u h. still u (λ v. omega arith) ∙ fy .kept u (omega arith) ∙ fx .kept u h;
+        drawn = drawn-joined p new X Y b
+            (drawn-still X b l₁ new (λ u j k. still u (λ v. omega arith) ∙ fy .kept u (omega arith)) (fx .drawn))
+            (rw (← qy) (drawn-still Y (xe + 1) l₂ new (λ u j k. still u (λ v. omega arith)) (fy .drawn)))
+            (rw (← qx, ← qy) (px .here));
+      }
+
   -- `|`: X up to xe, Y up to ye, and then S, X's end and Y's end
   pub forked-built : (X Y : Frag) (b xe ye e : ℕ) (old l₁ l₂ l₃ l₄ new : Lists)
       → Fits p X (b + 1) old l₁ xe → Fits p Y (xe + 1) l₁ l₂ ye → e ≡ suc ye → e < nodesMost

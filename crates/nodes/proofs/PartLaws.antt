@@ -1,11 +1,11 @@
 -- A part of the program, seen by its last operation.
 use mathlib.Core.Path.{_≡_, refl, sym, ap, subst, subst⁻¹}
-use mathlib.Core.Logic.{_⊎_, inl, inr, ⊎-elim}
+use mathlib.Core.Bool.{false, true≢false}
 use mathlib.Core.List.{List, [], _∷_}
 use Prim.Native.Nat.{ℕ, suc, _-_, _≤_, _<_}
 use native.Mathlib.Omega.{arith}
 use lib.ListN.{length}
-use types.Run.{OneOf}
+use types.Run.{OneOf, miss}
 use denote.Enum.Declared.{tagOf}
 use Rattle.program.proofs.Op.{the-type}
 use Rattle.rules.specs.Sizes.{nodesMost}
@@ -17,6 +17,7 @@ use Rattle.program.specs.declared.Op.{Op}
 use Rattle.program.specs.declared.Op.the-variants.{Nothing, Head, Tail, Dot, Class, Byte, InRow, Either, Repeated}
 use Rattle.entries.specs.Entries.{Lists, Room}
 use Rattle.nodes.specs.Fragments.{Part, Ready}
+use Rattle.nodes.specs.Spine.{joint}
 
 -- an atom ends at i
 pub record Leaf (p : List ℕ) (F : Frag) (i : ℕ) : Type 0 where
@@ -122,20 +123,20 @@ shaped p e w q h =
     subst (Shape p (frag (h .tree)) (e - 1)) q (shape p (e - 1) (omega (arith, nonempty h)) (h .tree) (h .start) e (h .is) (omega (arith, nonempty h)))
 
 -- an atom, by the tag of its operation
-pub leaf-shaped : (p : List ℕ) (e : ℕ) (o : Op) → e ≤ length p → operationAt p (e - 1) ≡ o → OneOf (3 ∷ 4 ∷ 5 ∷ []) (tagOf the-type o)
+pub leaf-shaped : (p : List ℕ) (e : ℕ) (o : Op) → e ≤ length p → operationAt p (e - 1) ≡ o → OneOf (3 ∷ 4 ∷ 5 ∷ 6 ∷ 7 ∷ []) (tagOf the-type o) → joint o .two ≡ false
     → (h : Part p e) → Leaf p (frag (h .tree)) (e - 1)
-leaf-shaped p e o w q t h = go o t (shaped p e w q h)
+leaf-shaped p e o w q t b h = go o t b (shaped p e w q h)
   where
-    none : {A : Type 0} {n : ℕ} → n < 3 ⊎ 5 < n → OneOf (3 ∷ 4 ∷ 5 ∷ []) n → A
-    none {A} {n} k t = absurd (⊎-elim (λ i. ⊎-elim (λ e. omega arith) (⊎-elim (λ e. omega arith) (λ e. omega arith)) t) (λ i. ⊎-elim (λ e. omega arith) (⊎-elim (λ e. omega arith) (λ e. omega arith)) t) k)
+    ks : List ℕ
+    ks = 3 ∷ 4 ∷ 5 ∷ 6 ∷ 7 ∷ []
 
-    go : (o : Op) → OneOf (3 ∷ 4 ∷ 5 ∷ []) (tagOf the-type o) → Shape p (frag (h .tree)) (e - 1) o → Leaf p (frag (h .tree)) (e - 1)
-    go Nothing t s = none (inl (omega arith)) t
-    go Head t s = none (inl (omega arith)) t
-    go Tail t s = none (inl (omega arith)) t
-    go Dot t s = s
-    go Class t s = s
-    go (Byte b) t s = s
-    go (InRow n) t s = none (inr (omega arith)) t
-    go (Either n) t s = none (inr (omega arith)) t
-    go (Repeated k) t s = none (inr (omega arith)) t
+    go : (o : Op) → OneOf ks (tagOf the-type o) → joint o .two ≡ false → Shape p (frag (h .tree)) (e - 1) o → Leaf p (frag (h .tree)) (e - 1)
+    go Nothing t b s = absurd (miss ks 0 tt t)
+    go Head t b s = absurd (miss ks 1 tt t)
+    go Tail t b s = absurd (miss ks 2 tt t)
+    go Dot t b s = s
+    go Class t b s = s
+    go (Byte n) t b s = s
+    go (InRow n) t b s = absurd (true≢false b)
+    go (Either n) t b s = absurd (true≢false b)
+    go (Repeated k) t b s = absurd (miss ks 8 tt t)

@@ -2,13 +2,13 @@
 use mathlib.Core.Path.{_≡_}
 use mathlib.Core.Bool.{Bool, true}
 use mathlib.Core.List.{List, _∷_, _++_, List·Memᴰ}
-use Prim.Native.Nat.{ℕ, zero, suc, _+_, _^_, _≤_, _<_}
+use Prim.Native.Nat.{ℕ, zero, suc, _+_, _≤_, _<_}
 use lib.ListN.{length}
 use Rattle.rules.specs.Tools.{copies}
 use Rattle.rules.specs.Sizes.{nodesMost}
 use Rattle.rules.specs.Tree.{Tree}
 use Rattle.rules.specs.Nodes.{Edge, Frag, size, around, frag}
-use Rattle.program.specs.Program.{Program}
+use Rattle.program.specs.Program.{programMost, Program}
 use Rattle.entries.specs.Entries.{Lists, Room, entryAt, edgesOf, Sound}
 use Rattle.nodes.specs.declared.fragment.Copies.{Copies}
 use Rattle.entries.specs.declared.Step.{Step}
@@ -47,21 +47,17 @@ pub record Part (p : List ℕ) (e : ℕ) : Type 0 where
   pub start : ℕ
   pub is : Program p tree start e
 
--- it can be built from b on; its places fit 16 bits
+-- it can be built from b on
 pub record Ready (p : List ℕ) (e b : ℕ) (l : Lists) : Type 0 where
   pub part : Part p e
   pub within : e ≤ length p
-  pub short : e ≤ 2 ^ 16
+  pub short : e ≤ programMost
   pub low : b < nodesMost
   pub room : Room l
 
 -- the part that ends at e is built as f says
 abbrev pub Builds : List ℕ → ℕ → (Frag → Frag) → ℕ → Lists → Lists → Step → Type 0
 Builds p e f b old new r = (h : Part p e) → BuiltAs p (f (frag (h .tree))) b old new r
-
--- the two parts that end at d and at e are built as f says
-abbrev pub BuildsBoth : List ℕ → ℕ → ℕ → (Frag → Frag → Frag) → ℕ → Lists → Lists → Step → Type 0
-BuildsBoth p d e f b old new r = (h : Part p d) (g : Part p e) → BuiltAs p (f (frag (h .tree)) (frag (g .tree))) b old new r
 
 -- m copies of X, then d copies of a repeat of X that may be skipped
 abbrev pub copiesOf : ℕ → ℕ → Bool → Frag → List Frag

@@ -1,2 +1,3 @@
 pub mod Fragments
+pub mod Spine
 pub mod Built

@@ -1,12 +1,20 @@
 // The fragments of the construction. Each builder begins at the node `base`, answers the fragment's end node, and leaves that node's
-// entry to its caller; a part of the program is named by its end.
+// entry to its caller; a part of the program is named by its end. Calls nest only as deep as groups do: the way down the left parts, which
+// is as long as a row or a choice, is kept on the lent spine, and each right part is lent what is left of it.
 ghost use mathlib.Core.Path.{_≡_};
-ghost use Prim.Native.Nat.{_+_, _<_, _≤_};
+ghost use mathlib.Core.Bool.{false};
+ghost use Prim.Native.Nat.{_+_, _-_, _<_, _≤_};
 ghost use lib.Dec.{eqb};
-ghost use Rattle.rules.specs.Nodes.{joined, forked, around, allJoined, repeatedly};
+ghost use lib.ListN.{length};
+ghost use Rattle.rules.specs.Sizes.{nodesMost};
+ghost use Rattle.rules.specs.Nodes.{forked, around, allJoined, repeatedly};
 ghost use Rattle.signs.specs.Answers.{repeatOf};
-ghost use Rattle.entries.specs.Entries.{lists, entry, pick};
-ghost use Rattle.nodes.specs.Fragments.{Part, Ready, Builds, BuildsBoth, copiesOf, copyOf, Fewer};
+ghost use Rattle.program.specs.Program.{operationAt};
+ghost use Rattle.entries.specs.Entries.{lists, Room, entry, pick};
+ghost use Rattle.nodes.specs.Fragments.{Ready, Builds, copiesOf, copyOf, Fewer};
+ghost use Rattle.nodes.specs.Spine.{joint, Binds};
+use crate::spine::descend;
+use crate::spine::start_of;
 use entries::BYTES;
 use entries::EMPTY;
 use entries::Entry;
@@ -17,6 +25,7 @@ use entries::link;
 use entries::next;
 use entries::put;
 use kinds::NODES;
+use kinds::NODES_MOST;
 use kinds::Node;
 use program::Op;
 use program::operation;
@@ -44,109 +53,21 @@ fn picked(c: bool, a: Node, b: Node) -> Node
     b
 }
 
-// The part that ends at `end`: what its last operation says.
-pub fn build_part(
-    program: &[u64],
-    end: usize,
-    kind: &mut [u8; NODES],
-    to1: &mut [u16; NODES],
-    to2: &mut [u16; NODES],
-    atom: &mut [u16; NODES],
-    base: Node,
-) -> Step
-    requires { ⌜ Ready (now program) end (base .0) (lists (now kind) (now to1) (now to2) (now atom)) ⌝ }
-    ensures { λ r. ⌜ Builds (now (program .entry)) end (λ X. X) (base .0)
-        (lists (now (kind .entry)) (now (to1 .entry)) (now (to2 .entry)) (now (atom .entry)))
-        (lists (now (kind .exit)) (now (to1 .exit)) (now (to2 .exit)) (now (atom .exit))) r ⌝ }
-{
-    let i = end - 1;
-    match operation(program[i]) {
-        Op::Nothing => link(kind, to1, to2, atom, base, EMPTY, 0),
-        Op::Head => link(kind, to1, to2, atom, base, HEAD, 0),
-        Op::Tail => link(kind, to1, to2, atom, base, TAIL, 0),
-        Op::Dot | Op::Class | Op::Byte(_) => link(kind, to1, to2, atom, base, BYTES, i as u16),
-        Op::InRow(right) => build_row(program, i - right as usize, i, kind, to1, to2, atom, base),
-        Op::Either(right) => {
-            build_either(program, i - right as usize, i, kind, to1, to2, atom, base)
-        }
-        Op::Repeated(sign) => build_repeat(program, i, sign, kind, to1, to2, atom, base),
-    }
-}
-
-// Two parts in a row: an empty edge from the first one's end to the second one's start.
-fn build_row(
-    program: &[u64],
-    left: usize,
-    right: usize,
-    kind: &mut [u8; NODES],
-    to1: &mut [u16; NODES],
-    to2: &mut [u16; NODES],
-    atom: &mut [u16; NODES],
-    base: Node,
-) -> Step
-    requires { ⌜ Part (now program) left × (left ≤ right) × Ready (now program) right (base .0) (lists (now kind) (now to1) (now to2) (now atom)) ⌝ }
-    ensures { λ r. ⌜ BuildsBoth (now (program .entry)) left right joined (base .0)
-        (lists (now (kind .entry)) (now (to1 .entry)) (now (to2 .entry)) (now (atom .entry)))
-        (lists (now (kind .exit)) (now (to1 .exit)) (now (to2 .exit)) (now (atom .exit))) r ⌝ }
-{
-    match build_part(program, left, kind, to1, to2, atom, base) {
-        Step::TooMany => Step::TooMany,
-        Step::To(x) => match link(kind, to1, to2, atom, x, EMPTY, 0) {
-            Step::TooMany => Step::TooMany,
-            Step::To(y) => build_part(program, right, kind, to1, to2, atom, y),
-        },
-    }
-}
-
-// A part from the node after `before` on.
-fn build_after(
-    program: &[u64],
-    end: usize,
-    kind: &mut [u8; NODES],
-    to1: &mut [u16; NODES],
-    to2: &mut [u16; NODES],
-    atom: &mut [u16; NODES],
-    before: Node,
-) -> Step
-    requires { ⌜ Ready (now program) end (before .0) (lists (now kind) (now to1) (now to2) (now atom)) ⌝ }
-    ensures { λ r. ⌜ Builds (now (program .entry)) end (λ X. X) (before .0 + 1)
-        (lists (now (kind .entry)) (now (to1 .entry)) (now (to2 .entry)) (now (atom .entry)))
-        (lists (now (kind .exit)) (now (to1 .exit)) (now (to2 .exit)) (now (atom .exit))) r ⌝ }
-{
-    match next(before) {
-        Step::TooMany => Step::TooMany,
-        Step::To(n) => build_part(program, end, kind, to1, to2, atom, n),
-    }
-}
-
 // X|Y: S to both starts, both ends to E.
-fn build_either(
-    program: &[u64],
-    left: usize,
-    right: usize,
+fn fork(
     kind: &mut [u8; NODES],
     to1: &mut [u16; NODES],
     to2: &mut [u16; NODES],
     atom: &mut [u16; NODES],
     base: Node,
+    x_end: Node,
+    y_end: Node,
 ) -> Step
-    requires { ⌜ Part (now program) left × (left ≤ right) × Ready (now program) right (base .0) (lists (now kind) (now to1) (now to2) (now atom)) ⌝ }
-    ensures { λ r. ⌜ BuildsBoth (now (program .entry)) left right forked (base .0)
+    requires { ⌜ (base .0 < nodesMost) × («x_end» .0 < nodesMost) × («y_end» .0 < nodesMost) × Room (lists (now kind) (now to1) (now to2) (now atom)) ⌝ }
+    ensures { λ r. ⌜ Binds forked (base .0) (base .0 + 1) («x_end» .0) («y_end» .0)
         (lists (now (kind .entry)) (now (to1 .entry)) (now (to2 .entry)) (now (atom .entry)))
         (lists (now (kind .exit)) (now (to1 .exit)) (now (to2 .exit)) (now (atom .exit))) r ⌝ }
 {
-    let x_end = match build_after(program, left, kind, to1, to2, atom, base) {
-        Step::TooMany => {
-            return Step::TooMany;
-        }
-        Step::To(n) => n,
-    };
-    let y_end = match build_after(program, right, kind, to1, to2, atom, x_end) {
-        Step::TooMany => {
-            return Step::TooMany;
-        }
-        Step::To(n) => n,
-    };
     match next(y_end) {
         Step::TooMany => Step::TooMany,
         Step::To(e) => {
@@ -160,24 +81,163 @@ fn build_either(
     }
 }
 
-// A repeat: S to X's start, X's end to E; perhaps S to E, and perhaps X's end back to X's start.
-fn build_around(
+// X and Y in a row, an empty edge from X's end to Y's start; or X|Y.
+fn combine(
+    op: Op,
+    kind: &mut [u8; NODES],
+    to1: &mut [u16; NODES],
+    to2: &mut [u16; NODES],
+    atom: &mut [u16; NODES],
+    base: Node,
+    x_end: Node,
+    y_end: Node,
+) -> Step
+    requires { ⌜ (base .0 < nodesMost) × («x_end» .0 < nodesMost) × («y_end» .0 < nodesMost) × Room (lists (now kind) (now to1) (now to2) (now atom)) ⌝ }
+    ensures { λ r. ⌜ Binds (joint op .makes) (base .0) (base .0 + joint op .before) («x_end» .0) («y_end» .0)
+        (lists (now (kind .entry)) (now (to1 .entry)) (now (to2 .entry)) (now (atom .entry)))
+        (lists (now (kind .exit)) (now (to1 .exit)) (now (to2 .exit)) (now (atom .exit))) r ⌝ }
+{
+    match op {
+        Op::InRow(_) => {
+            let y = Node(x_end.0 + 1);
+            put(kind, to1, to2, atom, x_end, empties(y, y));
+            Step::To(y_end)
+        }
+        _ => fork(kind, to1, to2, atom, base, x_end, y_end),
+    }
+}
+
+// The part that ends at `end`: down its left parts to the last, which is built first, and then up again, past each right part.
+pub fn build_part(
     program: &[u64],
     end: usize,
-    skip: bool,
-    back: bool,
+    spine: &mut [u16],
     kind: &mut [u8; NODES],
     to1: &mut [u16; NODES],
     to2: &mut [u16; NODES],
     atom: &mut [u16; NODES],
     base: Node,
 ) -> Step
-    requires { ⌜ Ready (now program) end (base .0) (lists (now kind) (now to1) (now to2) (now atom)) ⌝ }
+    requires { ⌜ (end ≤ length (now spine)) × Ready (now program) end (base .0) (lists (now kind) (now to1) (now to2) (now atom)) ⌝ }
+    ensures { λ r. ⌜ Builds (now (program .entry)) end (λ X. X) (base .0)
+        (lists (now (kind .entry)) (now (to1 .entry)) (now (to2 .entry)) (now (atom .entry)))
+        (lists (now (kind .exit)) (now (to1 .exit)) (now (to2 .exit)) (now (atom .exit))) r ⌝ }
+{
+    let bottom = descend(program, end, spine, base);
+    let mut start = bottom.start;
+    let mut up = bottom.passed;
+    if NODES_MOST <= start.0 {
+        return Step::TooMany;
+    }
+    let mut last = match build_bottom(
+        program,
+        bottom.end,
+        &mut spine[up..],
+        kind,
+        to1,
+        to2,
+        atom,
+        start,
+    ) {
+        Step::TooMany => {
+            return Step::TooMany;
+        }
+        Step::To(n) => n,
+    };
+    'up: loop {
+        if up == 0 {
+            break 'up Step::To(last);
+        }
+        up = up - 1;
+        let i = spine[up] as usize;
+        match build_after(program, i, &mut spine[up..], kind, to1, to2, atom, last) {
+            Step::TooMany => {
+                break 'up Step::TooMany;
+            }
+            Step::To(y_end) => {
+                let op = operation(program[i]);
+                start = start_of(op, start);
+                match combine(op, kind, to1, to2, atom, start, last, y_end) {
+                    Step::TooMany => {
+                        break 'up Step::TooMany;
+                    }
+                    Step::To(e) => {
+                        last = e;
+                    }
+                }
+            }
+        }
+    }
+}
+
+// A part that is no row and no choice.
+fn build_bottom(
+    program: &[u64],
+    end: usize,
+    spine: &mut [u16],
+    kind: &mut [u8; NODES],
+    to1: &mut [u16; NODES],
+    to2: &mut [u16; NODES],
+    atom: &mut [u16; NODES],
+    base: Node,
+) -> Step
+    requires { ⌜ (joint (operationAt (now program) (end - 1)) .two ≡ false) × (end ≤ length (now spine))
+        × Ready (now program) end (base .0) (lists (now kind) (now to1) (now to2) (now atom)) ⌝ }
+    ensures { λ r. ⌜ Builds (now (program .entry)) end (λ X. X) (base .0)
+        (lists (now (kind .entry)) (now (to1 .entry)) (now (to2 .entry)) (now (atom .entry)))
+        (lists (now (kind .exit)) (now (to1 .exit)) (now (to2 .exit)) (now (atom .exit))) r ⌝ }
+{
+    let i = end - 1;
+    match operation(program[i]) {
+        Op::Nothing => link(kind, to1, to2, atom, base, EMPTY, 0),
+        Op::Head => link(kind, to1, to2, atom, base, HEAD, 0),
+        Op::Tail => link(kind, to1, to2, atom, base, TAIL, 0),
+        Op::Repeated(sign) => build_repeat(program, i, sign, spine, kind, to1, to2, atom, base),
+        _ => link(kind, to1, to2, atom, base, BYTES, i as u16),
+    }
+}
+
+// A part from the node after `before` on.
+fn build_after(
+    program: &[u64],
+    end: usize,
+    spine: &mut [u16],
+    kind: &mut [u8; NODES],
+    to1: &mut [u16; NODES],
+    to2: &mut [u16; NODES],
+    atom: &mut [u16; NODES],
+    before: Node,
+) -> Step
+    requires { ⌜ (end ≤ length (now spine)) × Ready (now program) end (before .0) (lists (now kind) (now to1) (now to2) (now atom)) ⌝ }
+    ensures { λ r. ⌜ Builds (now (program .entry)) end (λ X. X) (before .0 + 1)
+        (lists (now (kind .entry)) (now (to1 .entry)) (now (to2 .entry)) (now (atom .entry)))
+        (lists (now (kind .exit)) (now (to1 .exit)) (now (to2 .exit)) (now (atom .exit))) r ⌝ }
+{
+    match next(before) {
+        Step::TooMany => Step::TooMany,
+        Step::To(n) => build_part(program, end, spine, kind, to1, to2, atom, n),
+    }
+}
+
+// A repeat: S to X's start, X's end to E; perhaps S to E, and perhaps X's end back to X's start.
+fn build_around(
+    program: &[u64],
+    end: usize,
+    skip: bool,
+    back: bool,
+    spine: &mut [u16],
+    kind: &mut [u8; NODES],
+    to1: &mut [u16; NODES],
+    to2: &mut [u16; NODES],
+    atom: &mut [u16; NODES],
+    base: Node,
+) -> Step
+    requires { ⌜ (end ≤ length (now spine)) × Ready (now program) end (base .0) (lists (now kind) (now to1) (now to2) (now atom)) ⌝ }
     ensures { λ r. ⌜ Builds (now (program .entry)) end (around skip back) (base .0)
         (lists (now (kind .entry)) (now (to1 .entry)) (now (to2 .entry)) (now (atom .entry)))
         (lists (now (kind .exit)) (now (to1 .exit)) (now (to2 .exit)) (now (atom .exit))) r ⌝ }
 {
-    let x_end = match build_after(program, end, kind, to1, to2, atom, base) {
+    let x_end = match build_after(program, end, spine, kind, to1, to2, atom, base) {
         Step::TooMany => {
             return Step::TooMany;
         }
@@ -233,31 +293,54 @@ fn build_repeat(
     program: &[u64],
     end: usize,
     sign: Repeat,
+    spine: &mut [u16],
     kind: &mut [u8; NODES],
     to1: &mut [u16; NODES],
     to2: &mut [u16; NODES],
     atom: &mut [u16; NODES],
     base: Node,
 ) -> Step
-    requires { ⌜ Ready (now program) end (base .0) (lists (now kind) (now to1) (now to2) (now atom)) ⌝ }
+    requires { ⌜ (end ≤ length (now spine)) × Ready (now program) end (base .0) (lists (now kind) (now to1) (now to2) (now atom)) ⌝ }
     ensures { λ r. ⌜ Builds (now (program .entry)) end (repeatedly (repeatOf sign)) (base .0)
         (lists (now (kind .entry)) (now (to1 .entry)) (now (to2 .entry)) (now (atom .entry)))
         (lists (now (kind .exit)) (now (to1 .exit)) (now (to2 .exit)) (now (atom .exit))) r ⌝ }
 {
     match sign {
-        Repeat::Star => build_around(program, end, true, true, kind, to1, to2, atom, base),
-        Repeat::Plus => build_around(program, end, false, true, kind, to1, to2, atom, base),
-        Repeat::Maybe => build_around(program, end, true, false, kind, to1, to2, atom, base),
+        Repeat::Star => build_around(program, end, true, true, spine, kind, to1, to2, atom, base),
+        Repeat::Plus => build_around(program, end, false, true, spine, kind, to1, to2, atom, base),
+        Repeat::Maybe => build_around(program, end, true, false, spine, kind, to1, to2, atom, base),
         Repeat::Times(m, more) => {
             let copies = Copies {
                 plain: m,
                 extra: more,
             };
-            build_copies(program, end, copies, false, kind, to1, to2, atom, base)
+            build_copies(
+                program,
+                end,
+                copies,
+                false,
+                spine,
+                kind,
+                to1,
+                to2,
+                atom,
+                base,
+            )
         }
         Repeat::AtLeast(m) => {
             let copies = Copies { plain: m, extra: 1 };
-            build_copies(program, end, copies, true, kind, to1, to2, atom, base)
+            build_copies(
+                program,
+                end,
+                copies,
+                true,
+                spine,
+                kind,
+                to1,
+                to2,
+                atom,
+                base,
+            )
         }
     }
 }
@@ -268,21 +351,22 @@ fn build_copy(
     end: usize,
     copies: Copies,
     back: bool,
+    spine: &mut [u16],
     kind: &mut [u8; NODES],
     to1: &mut [u16; NODES],
     to2: &mut [u16; NODES],
     atom: &mut [u16; NODES],
     base: Node,
 ) -> Step
-    requires { ⌜ Ready (now program) end (base .0) (lists (now kind) (now to1) (now to2) (now atom)) ⌝ }
+    requires { ⌜ (end ≤ length (now spine)) × Ready (now program) end (base .0) (lists (now kind) (now to1) (now to2) (now atom)) ⌝ }
     ensures { λ r. ⌜ Builds (now (program .entry)) end (copyOf (copies .plain) back) (base .0)
         (lists (now (kind .entry)) (now (to1 .entry)) (now (to2 .entry)) (now (atom .entry)))
         (lists (now (kind .exit)) (now (to1 .exit)) (now (to2 .exit)) (now (atom .exit))) r ⌝ }
 {
     if 0 < copies.plain {
-        return build_part(program, end, kind, to1, to2, atom, base);
+        return build_part(program, end, spine, kind, to1, to2, atom, base);
     }
-    build_around(program, end, true, back, kind, to1, to2, atom, base)
+    build_around(program, end, true, back, spine, kind, to1, to2, atom, base)
 }
 
 // Copies in a row; none of them is one empty branch.
@@ -291,13 +375,14 @@ fn build_copies(
     end: usize,
     copies: Copies,
     back: bool,
+    spine: &mut [u16],
     kind: &mut [u8; NODES],
     to1: &mut [u16; NODES],
     to2: &mut [u16; NODES],
     atom: &mut [u16; NODES],
     base: Node,
 ) -> Step
-    requires { ⌜ Ready (now program) end (base .0) (lists (now kind) (now to1) (now to2) (now atom)) ⌝ }
+    requires { ⌜ (end ≤ length (now spine)) × Ready (now program) end (base .0) (lists (now kind) (now to1) (now to2) (now atom)) ⌝ }
     ensures { λ r. ⌜ Builds (now (program .entry)) end (λ X. allJoined (copiesOf (copies .plain) (copies .extra) back X)) (base .0)
         (lists (now (kind .entry)) (now (to1 .entry)) (now (to2 .entry)) (now (atom .entry)))
         (lists (now (kind .exit)) (now (to1 .exit)) (now (to2 .exit)) (now (atom .exit))) r ⌝ }
@@ -308,7 +393,7 @@ fn build_copies(
     let mut left = copies;
     let mut at = base;
     'copies: loop {
-        match build_copy(program, end, left, back, kind, to1, to2, atom, at) {
+        match build_copy(program, end, left, back, spine, kind, to1, to2, atom, at) {
             Step::TooMany => {
                 break 'copies Step::TooMany;
             }

@@ -4,11 +4,13 @@ ghost use Rattle.nodes.specs.Fragments.{Ready};
 ghost use Rattle.nodes.specs.Built.{BuildsTree};
 
 mod fragment;
+mod spine;
 
 use entries::Entry;
 use entries::Step;
 use kinds::NODES;
 use kinds::Node;
+use program::PROGRAM_MOST;
 
 // The number of nodes; or refusal 10.
 pub enum Built {
@@ -29,7 +31,8 @@ pub fn build(
     requires { ⌜ Ready (now program) len 0 (lists (now kind) (now to1) (now to2) (now atom)) ⌝ }
     ensures { λ r. ⌜ BuildsTree (now (program .entry)) len (lists (now (kind .exit)) (now (to1 .exit)) (now (to2 .exit)) (now (atom .exit))) r ⌝ }
 {
-    match fragment::build_part(program, len, kind, to1, to2, atom, Node(0)) {
+    let mut spine = [0u16; PROGRAM_MOST];
+    match fragment::build_part(program, len, &mut spine, kind, to1, to2, atom, Node(0)) {
         Step::TooMany => Built::TooMany,
         Step::To(last) => {
             entries::put(

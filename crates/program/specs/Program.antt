@@ -4,6 +4,7 @@ use mathlib.Core.List.{List, [], _∷_}
 use Prim.Native.Nat.{ℕ, suc, _+_, _*_, _-_, _/_, _%_, _^_, _≤_, _<_}
 use lib.ListN.{length, getD, take}
 use Rattle.rules.specs.Tools.{find}
+use Rattle.rules.specs.Sizes.{patternMost}
 use Rattle.rules.specs.Signs.{dotBytes}
 use Rattle.rules.specs.Tree as rules
 use Rattle.rules.specs.Tree.{Tree, nothing, bytes, head, tail, inRow, either, repeated}
@@ -12,6 +13,10 @@ use Rattle.signs.specs.declared.count.Repeat.{Repeat}
 use Rattle.signs.specs.declared.count.Repeat.the-variants.{Star, Plus, Maybe, Times, AtLeast}
 use Rattle.program.specs.declared.Op.{Op}
 use Rattle.program.specs.declared.Op.the-variants.{Nothing, Head, Tail, Dot, Class, Byte, InRow, Either, Repeated}
+
+-- words of the longest program: at most two for each byte of a pattern, and one
+abbrev pub programMost : ℕ
+programMost = 2 * patternMost + 1
 
 -- the operations by their kind, where each carries what it takes from x
 abbrev pub kinds : ℕ → List (ℕ × Op)

@@ -5,8 +5,12 @@ ghost use lib.ListN.{length};
 ghost use Rattle.rules.specs.Signs.{dotBytes};
 ghost use Rattle.sets.specs.ByteSets.{bytesOf};
 ghost use Rattle.program.specs.Program.{operationOf, atomBytes, AtomAt, Puts, PutsClass};
+use kinds::PATTERN_MOST;
 use sets::byte_set::ByteSet;
 use signs::count::Repeat;
+
+// The longest program: at most two words for each byte of a pattern, and one.
+pub const PROGRAM_MOST: usize = 2 * PATTERN_MOST + 1;
 
 pub enum Op {
     Nothing,

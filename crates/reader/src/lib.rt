@@ -5,10 +5,8 @@ mod tree;
 
 use kinds::PATTERN_MOST;
 use kinds::Refusal;
+use program::PROGRAM_MOST;
 use tree::Got;
-
-// The longest program: at most two words for each byte of a pattern, and one.
-pub const PROGRAM_MOST: usize = 2 * PATTERN_MOST + 1;
 
 // The length of the program in words; or why the pattern is turned away.
 pub enum Reading {

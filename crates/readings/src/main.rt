@@ -7,7 +7,7 @@ ghost use Rattle.readings.specs.Lines.{hexValue, lineMost, Written, Unwr
 use kinds::PATTERN_MOST;
 use libc::STDIN_FILENO;
 use libc::STDOUT_FILENO;
-use reader::PROGRAM_MOST;
+use program::PROGRAM_MOST;
 use reader::Reading;
 
 // As much of a line as is kept: any pattern that is not too long is whole, and any other still too long.

@@ -6,15 +6,43 @@ use Rattle.nodes.proofs.TreeLaws.{tree-built}
 use Rattle.nodes.proofs.build.Statement.{statement}
 use Rattle.nodes.proofs.build.Tie as tie
 
-pub build-spec : {M : Type 1} → statement M
+put-requires : tie.Need-put-requires
+put-requires c κs =
+    let L : tie.After-last = search needs in
+    let B : tie.After-build-part = L .before .before .before in
+    let S : tie.Start = B .before .before .before .before .before .before .before in
+    let f = rw (L .last .given .1) at (B .build-part .ensures (S .pre .part)) in
+    (f .low, f .room)
+
+add-t24 : tie.Need-add-t24
+add-t24 c =
+    let L : tie.After-last = search needs in
+    let B : tie.After-build-part = L .before .before .before in
+    let S : tie.Start = B .before .before .before .before .before .before .before in
+    let f = rw (L .last .given .1) at (B .build-part .ensures (S .pre .part)) in
+    omega (arith, f .low)
+
+returns : tie.Need-returns
 unfolding nodeCount
+returns c h = let B : tie.After-build-part = search needs in omega (arith, rw (c .enum-told .given .1) at (B .build-part .ensures h))
+
+returns-2 : tie.Need-returns-2
+unfolding nodeCount
+returns-2 c h =
+    let L : tie.After-last = search needs in
+    let B : tie.After-build-part = L .before .before .before in
+    let P : tie.After-put = search needs in
+    tree-built _ (h .tree) _ _ _ _ (rw (L .last .given .1) at (B .build-part .ensures h)) (P .put .ensures)
+
+pub build-spec : {M : Type 1} → statement M
 build-spec =
     tie.close
     (tie.spec
+    (λ c. search needs)
     (λ c κs. search needs)
     (λ c. search needs)
     (λ c. search needs)
-    (λ c κs. let s = c .before .before .before .before .before in let f = rw (s .last .given .1) at (s .before .before .build-part .ensures (s .before .before .before .before .before .before .before .before .pre .part)) in (f .low, f .room))
-    (λ c. let s = c .before .before .before .before .before .before .before in let f = rw (s .last .given .1) at (s .before .before .build-part .ensures (s .before .before .before .before .before .before .before .before .pre .part)) in omega (arith, f .low))
-    (λ c h. omega (arith, rw (c .enum-told .given .1) at (c .before .before .build-part .ensures h)))
-    (λ c h. let s = c .before .before .before .before .before .before .before in let f = rw (s .last .given .1) at (s .before .before .build-part .ensures h) in tree-built _ (h .tree) _ _ _ _ f (c .before .put .ensures)))
+    put-requires
+    add-t24
+    returns
+    returns-2)
