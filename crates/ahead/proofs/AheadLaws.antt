@@ -6,10 +6,11 @@ use Prim.Native.Nat.{ℕ, suc, _+_, _*_, _≤_, _<_}
 use native.Mathlib.Numerals.{add-one}
 use native.Mathlib.Omega.{arith}
 use lib.Dec.{eqb}
-use lib.ListN.{length, getD, set, drop}
+use lib.ListN.{length, getD, set, drop, replicate, getD-replicate}
 use lib.Seq.{drop-cons, drop-length, getD-drop, getD-set-same, getD-set-other}
 use mir.Val.{boolByte}
 use borrow.Author.Count.{below-more}
+use Rattle.rules.specs.Sizes.{rowsMost}
 use Rattle.rules.specs.Table.{Table, cell, fits, WellFormed}
 use Rattle.ahead.specs.Ahead.{mark, ahead, Stuck, Flags}
 
@@ -58,6 +59,16 @@ flag-more f flags {q} {v} h l e =
     below-more (λ (k : ℕ). getD (set flags q v) k 0 ≡ f k) q
     (λ k i. getD-set-other flags q k v 0 (λ n. omega arith) ∙ h k i)
     (getD-set-same flags q v 0 l ∙ e)
+
+-- from q on the flags are 0 as at first
+abbrev pub Rest : List ℕ → ℕ → Type 0
+Rest flags q = (k : ℕ) → q ≤ k → k < rowsMost → getD flags k 0 ≡ 0
+
+pub rest-all : Rest (replicate {A = ℕ} 1024 0) 0
+rest-all k l h = getD-replicate 1024 k 0 0 h
+
+pub rest-less : (flags : List ℕ) (q v : ℕ) → Rest flags q → Rest (set flags q v) (q + 1)
+rest-less flags q v f k l h = getD-set-other flags q k v 0 (omega arith) ∙ f k (omega arith) h
 
 -- a walk from row q has come from `from` to p, and to row q′
 pub record On (w : Table) (t : List ℕ) (q from to q′ p : ℕ) : Type 0 where

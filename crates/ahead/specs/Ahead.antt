@@ -8,7 +8,7 @@ use Prim.Native.Nat.{ℕ, suc, _-_, _≤_, _<_}
 use lib.ListN.{length, getD, drop}
 use mir.Val.{boolByte}
 use Rattle.rules.specs.Tools.{kept, guard, orElse}
-use Rattle.rules.specs.Sizes.{textMost}
+use Rattle.rules.specs.Sizes.{rowsMost, textMost}
 use Rattle.rules.specs.Table.{Table, cell, begins, fits, places, WellFormed}
 use Rattle.table.specs.Lent.{tableOf}
 use Rattle.ahead.specs.declared.Rows.{Rows}
@@ -46,9 +46,10 @@ pub record Ready (w : Table) (t : List ℕ) (dead : ℕ) : Type 0 where
   pub short : length t ≤ textMost
   pub stuck : dead < w .count → Stuck w dead
 
--- each row's flag, where u is left
+-- each row's flag, where u is left, and 0 past the rows
 pub record Flags (w : Table) (u flags : List ℕ) : Type 0 where
   pub of : (q : ℕ) → q < w .count → getD flags q 0 ≡ boolByte (ahead w q u)
+  pub rest : (q : ℕ) → w .count ≤ q → q < rowsMost → getD flags q 0 ≡ 0
 
 -- the stretch of a walk from row q, and the flags at its end
 pub record Stretch (w : Table) (t flags : List ℕ) (q from to : ℕ) : Type 0 where

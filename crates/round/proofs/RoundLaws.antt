@@ -58,7 +58,7 @@ From class parted count j x = (x ≡ getD class j 0) ⊎ Among parted count x
 pub round-none : (cells class next parted : List ℕ) → length next ≡ length class → length parted ≡ length class → Round cells class next parted 0 0
 round-none cells class next parted e f = record {
   long = e;
-  late = record { long = f; few = omega arith; fresh = λ k l. absurd (omega arith) };
+  late = record { long = f; few = omega arith; fresh = λ k l. absurd (omega arith); rising = λ j k i l. absurd (omega arith) };
   least = λ j l. absurd (omega arith);
   from = λ j l. absurd (omega arith);
 }
@@ -87,7 +87,7 @@ module _ {cells class next parted : List ℕ} {count r : ℕ} (R : Round cells c
   later F = record { early = omega (arith, F .early); own = F .own; moved = F .moved }
 
   stay-parted : Parted cells class parted count (r + 1)
-  stay-parted = record { long = R .late .long; few = omega (arith, R .late .few); fresh = λ k lk. later (R .late .fresh k lk) }
+  stay-parted = record { long = R .late .long; few = omega (arith, R .late .few); fresh = λ k lk. later (R .late .fresh k lk); rising = R .late .rising }
 
   -- row r's name is set
   named : {parted′ : List ℕ} {count′ p : ℕ} → ((x : ℕ) → Among parted count x → Among parted′ count′ x) → Parted cells class parted′ count′ (r + 1)
@@ -123,7 +123,7 @@ module _ {cells class next parted : List ℕ} {count r : ℕ} (R : Round cells c
 
   -- it parts from its class
   pub parts : {p : ℕ} → Names class → Found cells class parted count r p → p ≡ r → getD class r 0 ≢ r → Round cells class (set next r p) (set parted count r) (count + 1) (r + 1)
-  parts {p} N F e n = named still record { long = length-set parted count r ∙ R .late .long; few = omega (arith, R .late .few); fresh = fresh } (found-least N F) (inr (record { place = count; early = omega arith; there = getD-set-same parted count r 0 room ∙ sym e }))
+  parts {p} N F e n = named still record { long = length-set parted count r ∙ R .late .long; few = omega (arith, R .late .few); fresh = fresh; rising = rising } (found-least N F) (inr (record { place = count; early = omega arith; there = getD-set-same parted count r 0 room ∙ sym e }))
     where
       room : count < length parted
       room = omega (arith, R .late .few, R .late .long)
@@ -134,6 +134,13 @@ module _ {cells class next parted : List ℕ} {count r : ℕ} (R : Round cells c
       fresh : (k : ℕ) → k < count + 1 → Fresh cells class (r + 1) (getD (set parted count r) k 0)
       fresh = set-next (λ k m. Fresh cells class (r + 1) m) parted count r room (λ k lk. later (R .late .fresh k lk))
           (record { early = omega arith; own = subst (λ (x : ℕ). Least cells class r x) e (found-least N F); moved = n })
+
+      rising : (j k : ℕ) → j < k → k < count + 1 → getD (set parted count r) j 0 < getD (set parted count r) k 0
+      rising j k l lk = set-next (λ i m. j < i → getD (set parted count r) j 0 < m) parted count r room
+          (λ i li h. omega (arith, kept (omega arith), R .late .rising j i h li)) (λ h. omega (arith, kept h, R .late .fresh j h .early)) k lk l
+        where
+          kept : j < count → getD (set parted count r) j 0 ≡ getD parted j 0
+          kept h = getD-set-other parted count j r 0 (omega arith)
 
 -- ---- clean rows
 

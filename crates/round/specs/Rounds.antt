@@ -76,11 +76,12 @@ pub record Fresh (cells class : List ℕ) (r m : ℕ) : Type 0 where
   pub own : Least cells class m m
   pub moved : getD class m 0 ≢ m
 
--- the rows before row r that parted
+-- the rows before row r that parted, ascending
 pub record Parted (cells class parted : List ℕ) (count r : ℕ) : Type 0 where
   pub long : length parted ≡ length class
   pub few : count ≤ r
   pub fresh : (k : ℕ) → k < count → Fresh cells class r (getD parted k 0)
+  pub rising : (j k : ℕ) → j < k → k < count → getD parted j 0 < getD parted k 0
 
 -- what the search for the least row of r's next class finds: the least row of its class, a row that parted, or itself
 pub data Found (cells class parted : List ℕ) (count r p : ℕ) : Type 0 where
