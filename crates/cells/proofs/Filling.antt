@@ -12,7 +12,7 @@ use Rattle.rules.specs.Tools.{has}
 use Rattle.rules.specs.Tree.{Tree}
 use Rattle.rules.specs.SetRows.{machine, row-at, setRows, rowCount}
 use Rattle.rules.proofs.Tests.{both-left, both-right, both}
-use Rattle.rules.proofs.Taken.{Taken}
+use Rattle.cells.specs.Taken.{Taken}
 use Rattle.sets.specs.NodeSets.{maskOf, rowWords, meets}
 use Rattle.cells.specs.Known.{Unknown, Book, TookIn}
 use Rattle.runs.specs.Runs.{Starts, InRun}

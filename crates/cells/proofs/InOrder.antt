@@ -14,7 +14,8 @@ use Rattle.rules.proofs.Lists.{place-le, place-hit}
 use Rattle.rules.proofs.RowsListed.{same-row, row-same, Before}
 use Rattle.rules.proofs.SetRowsAll.{target-at, length-targets, to-byte, first-rows, distinct, target-in, ordered}
 use Rattle.rules.proofs.TidyNodes.{neat}
-use Rattle.rules.proofs.Taken.{Taken, rowOf, next-taken, next-told, not-inside}
+use Rattle.cells.specs.Taken.{Taken}
+use Rattle.cells.proofs.Taken.{rowOf, next-taken, next-told, not-inside}
 use Rattle.sets.specs.NodeSets.{maskOf}
 use Rattle.cells.specs.Known.{Unknown, TookIn}
 use Rattle.cells.specs.Cells.{placeOf, Reached, Going, takenAt}

@@ -1,2 +1,3 @@
+pub mod Taken
 pub mod Known
 pub mod Cells

@@ -5,4 +5,3 @@ pub mod RowsFront
 pub mod Limits
 pub mod StageLaws
 pub mod OutcomesOnce
-pub mod Demands

@@ -11,7 +11,7 @@ use Rattle.rules.specs.Compile.{Room, leaves, drawn, compile}
 use Rattle.rules.specs.Listing.{listing, withoutLineEnd, roomFor}
 use Rattle.rules.proofs.TableLaws.{well-formed-test}
 use Rattle.rules.proofs.LentTable.{longer-formed}
-use Rattle.rules.proofs.CompileOnce.{demand-2}
+use Rattle.rules.proofs.CompileOnce.{drawn-formed}
 use Rattle.writing.specs.Texts.{ifFormed}
 use Rattle.writing.proofs.Cases.{if-true}
 use Rattle.listing.specs.Programs.{outcomeText}
@@ -38,5 +38,5 @@ graph-given input = go (drawn p l) refl
     go : (d : Answer Table) → drawn p l ≡ d → Given (outcomeText dotOf (leaves l d))
     go (refused r) e = record { text = listing (refused r); is = refl; short = omega (arith, refusal-line-most p l r e) }
     go (given w) e =
-        let f = longer-formed (demand-2 p l w e .well-formed) _ _ in
+        let f = longer-formed (drawn-formed p l w e) _ _ in
         record { text = dot _; is = if-true _ _ (well-formed-test _ .1 f); short = omega (arith, dot-most f, rows-most p l w e, room-rows) }

@@ -9,8 +9,7 @@ ghost use Rattle.draw.specs.Graphs.{graphOf, graphMost};
 use compile::Compiled;
 use kinds::PATTERN_MOST;
 use kinds::WORDS_A_ROW;
-use libc::STDIN_FILENO;
-use libc::STDOUT_FILENO;
+use streams::Input;
 use writing::Text;
 
 // Rows for which there is room.
@@ -52,11 +51,21 @@ fn buffer() -> [u8; 1048576]
     [0; 1048576]
 }
 
+// Writes the text to standard output.
+fn write(input: &[u8]) {
+    let mut out = buffer();
+    let length = graph_whole(input, &mut out);
+    streams::write_output(&out[..length], b"draw: standard output can't be written\n");
+}
+
 // 1,026 bytes of the input are enough: a longer one is too long for a pattern.
 fn main() {
     let mut input = [0u8; PATTERN_MOST + 2];
-    let read = io::read_full(STDIN_FILENO, &mut input);
-    let mut out = buffer();
-    let length = graph_whole(&input[..read], &mut out);
-    io::write_all(STDOUT_FILENO, &out[..length]);
+    let read = streams::read_input(&mut input);
+    match read {
+        Input::Bytes(n) => write(&input[..n]),
+        Input::Unread => {
+            streams::say(b"draw: expected a pattern on standard input, and no argument\n");
+        }
+    }
 }

@@ -10,8 +10,7 @@ ghost use Rattle.listing.specs.Programs.{printedMost};
 use compile::Compiled;
 use kinds::PATTERN_MOST;
 use kinds::WORDS_A_ROW;
-use libc::STDIN_FILENO;
-use libc::STDOUT_FILENO;
+use streams::Input;
 use writing::Text;
 
 // Rows for which there is room.
@@ -53,11 +52,21 @@ fn buffer() -> [u8; 262144]
     [0; 262144]
 }
 
+// Writes the text to standard output.
+fn print(input: &[u8]) {
+    let mut out = buffer();
+    let length = printed_whole(input, &mut out);
+    streams::write_output(&out[..length], b"list: standard output can't be written\n");
+}
+
 // The first 1,026 bytes of the input decide what is printed, however long it is (`beginning-decides`).
 fn main() {
     let mut input = [0u8; PATTERN_MOST + 2];
-    let read = io::read_full(STDIN_FILENO, &mut input);
-    let mut out = buffer();
-    let length = printed_whole(&input[..read], &mut out);
-    io::write_all(STDOUT_FILENO, &out[..length]);
+    let read = streams::read_input(&mut input);
+    match read {
+        Input::Bytes(n) => print(&input[..n]),
+        Input::Unread => {
+            streams::say(b"list: expected a pattern on standard input, and no argument\n");
+        }
+    }
 }

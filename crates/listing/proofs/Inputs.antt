@@ -7,11 +7,13 @@ use native.Mathlib.Omega.{arith}
 use borrow.Author.Tests.{eq-eqb, ne-eqb, lt-ltb}
 use lib.ListN.{length, getD, take}
 use lib.Seq.{take-all, length-take-le}
+use denote.Ref.{RefT}
 use Rattle.rules.specs.Sizes.{patternMost, listingRows}
 use Rattle.rules.specs.Answers.{refused, refusal}
 use Rattle.rules.specs.Compile.{Room, drawn}
 use Rattle.rules.specs.Listing.{withoutLineEnd, roomFor, listing, printed}
 use Rattle.writing.proofs.Cases.{if-true, if-false}
+use Rattle.listing.specs.Inputs.{PatternPart}
 
 -- n is the last place
 pub line-end-dropped : (input : List ℕ) (n : ℕ) → length input ≡ suc n → getD input n 0 ≡ 10 → withoutLineEnd input ≡ take n input
@@ -32,6 +34,10 @@ pub nothing-left : (input : List ℕ) → length input ≡ 0 → input ≡ witho
 nothing-left [] e = refl
 nothing-left (b ∷ s) e = absurd (omega arith)
 
+-- no second part of the input fits what `pattern_of` promises
+pub pattern-once : (t r q : RefT (List ℕ)) → PatternPart t r → PatternPart t q → (r .ptr .0 ≡ q .ptr .0) × (r .ptr .1 ≡ q .ptr .1) × (r .now ≡ q .now)
+pattern-once t r q a b = (a .block ∙ sym (b .block), a .place ∙ sym (b .place), a .bytes ∙ sym (b .bytes))
+
 -- ---- how much decides
 
 at-most-one : (s : List ℕ) → length s ≤ suc (length (withoutLineEnd s))
@@ -39,7 +45,7 @@ at-most-one [] = omega arith
 at-most-one (b ∷ []) = omega arith
 at-most-one (b ∷ c ∷ s) = let rest : length (c ∷ s) ≤ suc (length (withoutLineEnd (c ∷ s))) = at-most-one (c ∷ s) in omega arith
 
-too-long : (p : List ℕ) (l : Room) → patternMost < length p → drawn p l ≡ refused (refusal 1 patternMost)
+pub too-long : (p : List ℕ) (l : Room) → patternMost < length p → drawn p l ≡ refused (refusal 1 patternMost)
 unfolding drawn
 too-long p l h = if-true _ _ (lt-ltb patternMost (length p) h)
 

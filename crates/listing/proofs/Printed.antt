@@ -17,7 +17,7 @@ use Rattle.rules.specs.Listing.{lineEnd, decimal, rowLine, listing, withoutLine
 use Rattle.rules.proofs.TableLaws.{well-formed-test}
 use Rattle.rules.proofs.LentTable.{longer, marks-alike, longer-formed}
 use Rattle.rules.proofs.CompiledTable.{rows-few}
-use Rattle.rules.proofs.CompileOnce.{demand-1, demand-2, when-given}
+use Rattle.rules.proofs.CompileOnce.{drawn-refuses, drawn-formed, when-given}
 use Rattle.writing.proofs.Cases.{if-true}
 use Rattle.writing.proofs.Numbers.{decimal-short}
 use Rattle.writing.specs.Texts.{ifFormed}
@@ -57,7 +57,7 @@ outcome-printed input = go (drawn p l) refl
 
     go : (d : Answer Table) → drawn p l ≡ d → outcomeText listingOf (leaves l d) ≡ given (listing d)
     go (refused r) e = refl
-    go (given w) e = longer-listed (demand-2 p l w e .well-formed) _ _
+    go (given w) e = longer-listed (drawn-formed p l w e) _ _
 
 -- ---- how long it gets
 
@@ -77,7 +77,7 @@ fault-number (eight a b) = omega arith
 fault-number (nine a b) = omega arith
 
 small : (p : List ℕ) (l : Room) (r : Refusal) → drawn p l ≡ refused r → Small r
-small p l r e = go (demand-1 p l r .0 e)
+small p l r e = go (drawn-refuses p l r .0 e)
   where
     of : {n i : ℕ} → n < 100 → i < 10000 → r ≡ refusal n i → Small r
     of {n} {i} a b q = record { number = rw q a; place = rw q b }
@@ -119,4 +119,4 @@ printed-most input = go (drawn p l) refl
 
     go : (d : Answer Table) → drawn p l ≡ d → length (listing d) ≤ printedMost
     go (refused r) e = omega (arith, refusal-line-most p l r e)
-    go (given w) e = omega (arith, listing-most (demand-2 p l w e .well-formed), rows-most p l w e, room-rows)
+    go (given w) e = omega (arith, listing-most (drawn-formed p l w e), rows-most p l w e, room-rows)

@@ -1,17 +1,18 @@
 // The listing of a table and the line of a refusal, written into a lent buffer; and a pattern as it comes from an input.
 ghost use mathlib.Core.Path.{_≡_};
 ghost use mathlib.Core.List.{map};
-ghost use Prim.Native.Nat.{_*_, _^_, _≤_, _<_};
+ghost use Prim.Native.Nat.{_*_, _≤_};
 ghost use lib.ListN.{length};
 ghost use Rattle.rules.specs.Tools.{upFrom, flat};
 ghost use Rattle.rules.specs.Answers.{refusal, refused, given};
-ghost use Rattle.rules.specs.Listing.{runText, runs, rowLine, listing, withoutLineEnd};
+ghost use Rattle.rules.specs.Listing.{runText, runs, rowLine, listing};
 ghost use Rattle.kinds.specs.Refusals.{refusalOf};
 ghost use Rattle.table.specs.Lent.{tableOf};
 ghost use Rattle.writing.specs.Writing.{Room, Writes};
 ghost use Rattle.writing.specs.Runs.{runOf};
 ghost use Rattle.writing.specs.Texts.{shown, shownIn};
 ghost use Rattle.listing.specs.Lines.{lineOf, listingOf};
+ghost use Rattle.listing.specs.Inputs.{PatternPart};
 use kinds::Refusal;
 use kinds::Row;
 use writing::Text;
@@ -21,9 +22,9 @@ use writing::put_all;
 use writing::put_number;
 use writing::run_end;
 
-// The input less one final byte 10.
+// The input less one final byte 10, as a part of the input itself.
 pub fn pattern_of(input: &[u8]) -> &[u8]
-    ensures { λ r. ⌜ now r ≡ withoutLineEnd (now (input .entry)) ⌝ }
+    ensures { λ r. ⌜ PatternPart (input .entry) r ⌝ }
 {
     let n = input.len();
     if n == 0 {
@@ -109,11 +110,11 @@ fn put_table(out: &mut [u8], rows: u16, head: Row, cells: &[u16], marks: &[u8]) 
 }
 
 // The line of a refusal, of its number and its place.
-fn put_refused(out: &mut [u8], number: u32, place: u32) -> usize
-    ensures { λ r. ⌜ Writes (now (out .entry)) 0 (listing (refused (refusal number place))) (now (out .exit)) r ⌝ }
-    ensures { λ r. ⌜ r < 2 ^ 32 ⌝ }
+pub fn put_refused(out: &mut [u8], at: usize, number: u32, place: u32) -> usize
+    requires { ⌜ Room at (listing (refused (refusal number place))) ⌝ }
+    ensures { λ r. ⌜ Writes (now (out .entry)) at (listing (refused (refusal number place))) (now (out .exit)) r ⌝ }
 {
-    let here = put_all(out, 0, b"refused ");
+    let here = put_all(out, at, b"refused ");
     let here = put_number(out, here, number);
     let here = put_all(out, here, b" at ");
     let here = put_number(out, here, place);
@@ -135,7 +136,7 @@ pub fn write_table(rows: u16, head: Row, cells: &[u16], marks: &[u8], out: &mut 
 pub fn write_refused(number: u32, place: u32, out: &mut [u8]) -> Text
     ensures { λ r. ⌜ shown r (now (out .exit)) ≡ shownIn (now (out .entry)) (given (listing (refused (refusal number place)))) ⌝ }
 {
-    let n = put_refused(out, number, place);
+    let n = put_refused(out, 0, number, place);
     answer(n, out.len())
 }
 

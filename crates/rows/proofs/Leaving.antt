@@ -13,7 +13,7 @@ use Rattle.rules.specs.Nodes.{onBytes, Edge, edge}
 use Rattle.rules.specs.SetRows.{onByte, machine}
 use Rattle.rules.proofs.Edges.{_∈_}
 use Rattle.rules.proofs.TidyNodes.{neat}
-use Rattle.rules.proofs.Taken.{Leaves}
+use Rattle.cells.specs.Taken.{Leaves}
 use Rattle.program.specs.Program.{atomBytes}
 use Rattle.entries.specs.Nodes.{nodeEdges, listEdges}
 use Rattle.runs.specs.Runs.{Crosses, Runs}

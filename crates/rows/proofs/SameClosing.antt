@@ -16,7 +16,7 @@ use Rattle.rules.proofs.Closing.{Below, closed-only}
 use Rattle.rules.proofs.RowsRight.{nodes-below}
 use Rattle.rules.proofs.SetRowsAll.{first-rows}
 use Rattle.rules.proofs.TidyNodes.{neat}
-use Rattle.rules.proofs.Taken.{next-taken}
+use Rattle.cells.proofs.Taken.{next-taken}
 use Rattle.entries.specs.Nodes.{nodeEdges, listEdges, HoldNodes}
 use Rattle.closing.specs.Closing.{ways, Nodes, closing, markBy}
 use Rattle.cells.specs.Cells.{Reached, Going, seedsOf, nodesOf}

@@ -1,4 +1,4 @@
--- Compiling: what is computed fits what is asked, no second outcome does, and the three demands hold.
+-- Compiling: what is computed fits what is asked, no second outcome does, and what is drawn is right, smallest and the only one.
 use mathlib.Core.Path.{_≡_, refl, sym, ap, subst, _∙_}
 use mathlib.Core.Logic.{_⊎_, inl, inr, _↔_}
 use mathlib.Core.Bool.{true, false}
@@ -14,20 +14,20 @@ use Rattle.rules.specs.Grammar.{Legal}
 use Rattle.rules.specs.Meaning.{Match}
 use Rattle.rules.specs.Nodes.{nodeCount}
 use Rattle.rules.specs.SetRows.{rowCount}
-use Rattle.rules.specs.Table.{Table, takes}
-use Rattle.rules.specs.Drawing.{OnStretches, SameMatches, Smallest}
+use Rattle.rules.specs.Table.{Table, takes, WellFormed}
+use Rattle.rules.specs.Drawing.{OnStretches, SameMatches, Exact}
 use Rattle.rules.specs.Turned.{Turned}
 use Rattle.rules.specs.Answers.{Refusal, refusal, Answer, refused, given, Due}
 use Rattle.rules.specs.Compile.{Room, rowsFor, Outcome, leaves, TooLong, TurnedAway, ManyNodes, ManyRows, CompileRefusals, DrawingOf, Draws, Compiles, limited, drawn, compile}
 use Rattle.rules.specs.Compiled.{compiled}
 use Rattle.rules.specs.Reader.{Reading, got, bad, read}
-use Rattle.rules.specs.Demands.{PatternMatch, Demand1, Demand2, Demand3}
+use Rattle.rules.specs.Demands.{PatternMatch, Refuses, Demand3, SamePatterns}
 use Rattle.rules.proofs.Tests.{lt-test}
 use Rattle.rules.proofs.Refusals.{Decided, AllDecided, below-decided, due-once, due-exactly, tested}
 use Rattle.rules.proofs.ScanSound.{read-got}
 use Rattle.rules.proofs.ReadOnce.{tree-or-refusal, read-turned}
 use Rattle.rules.proofs.CompiledTable.{rows-few}
-use Rattle.rules.proofs.Drawings.{table-right, formed, table-smallest, drawing, drawing-once, one-table}
+use Rattle.rules.proofs.Drawings.{table-right, formed, drawing, drawing-once, table-only, one-table}
 
 module _ (p : List ℕ) where
   one-tree : (X Y : Tree) → Legal p X → Legal p Y → X ≡ Y
@@ -103,10 +103,10 @@ module _ (p : List ℕ) where
   compile-once l x y a b =
       a .result ∙ ap (leaves l) (due-once (DrawingOf p) (CompileRefusals p l) (all-decided l) one-drawing (a .table) (b .table) (a .draws) (b .draws)) ∙ sym (b .result)
 
--- ---- the three demands
+-- ---- what is drawn
 
-pub demand-1 : Demand1
-demand-1 p l = due-exactly (DrawingOf p) (CompileRefusals p l) (all-decided p l) (drawn p l) (draws p l)
+pub drawn-refuses : (p : List ℕ) (l : Room) → Refuses (CompileRefusals p l) (drawn p l)
+drawn-refuses p l = due-exactly (DrawingOf p) (CompileRefusals p l) (all-decided p l) (drawn p l) (draws p l)
 
 -- a table is given only where no refusal is due: then it is the compiled table of the tree, with S at most K
 pub record Compiled (p : List ℕ) (l : Room) (w : Table) : Type 0 where
@@ -141,28 +141,35 @@ when-given p l w e = go (rw e at (draws p l))
 tree-match : (p : List ℕ) (X : Tree) → Legal p X → (t : List ℕ) (s e : ℕ) → Match t X s e ↔ PatternMatch p t s e
 tree-match p X h t s e = (λ m. (X, h, m), λ x. subst (λ (Y : Tree). Match t Y s e) (one-tree p (x .0) X (x .1) h) (x .2))
 
-pub demand-2 : (p : List ℕ) (l : Room) (w : Table) → drawn p l ≡ given w → Demand2 p w
-unfolding rowsFor
-demand-2 p l w e = subst (Demand2 p) (sym (c .is)) (record {
-  well-formed = record { formed = formed X; few-rows = omega (arith, rows-few X, c .few) };
-  right = λ t h s e se le. let r : T (takes (compiled X) t s e) ↔ Match t X s e = table-right X t h s e se le in let m : Match t X s e ↔ PatternMatch p t s e = tree-match p X (c .legal) t s e in
-      (λ x. m .0 (r .0 x), λ x. r .1 (m .1 x));
-})
-  where
-    c : Compiled p l w
-    c = when-given p l w e
+module _ (p : List ℕ) (l : Room) (w : Table) (e : drawn p l ≡ given w) where
+  c : Compiled p l w
+  c = when-given p l w e
 
-    X : Tree
-    X = c .tree
+  pub drawn-exact : Exact w
+  drawn-exact = subst Exact (sym (c .is)) (drawing (c .tree) .exact)
 
-pub demand-3 : Demand3
-demand-3 = record {
-  smallest = λ p l w e. let c : Compiled p l w = when-given p l w e in subst Smallest (sym (c .is)) (table-smallest (c .tree));
-  same = λ p q l m w v e f. both (when-given p l w e) (when-given q m v f);
-}
+  pub drawn-formed : WellFormed w
+  unfolding rowsFor
+  drawn-formed = subst WellFormed (sym (c .is)) (record { formed = formed (c .tree); few-rows = omega (arith, rows-few (c .tree), c .few) })
+
+  pub drawn-right : OnStretches (λ t s e. T (takes w t s e) ↔ PatternMatch p t s e)
+  drawn-right = subst (λ (v : Table). OnStretches (λ t s e. T (takes v t s e) ↔ PatternMatch p t s e)) (sym (c .is)) (λ t h s e se le.
+      let r : T (takes (compiled (c .tree)) t s e) ↔ Match t (c .tree) s e = table-right (c .tree) t h s e se le in
+      let m : Match t (c .tree) s e ↔ PatternMatch p t s e = tree-match p (c .tree) (c .legal) t s e in
+      (λ x. m .0 (r .0 x), λ x. r .1 (m .1 x)))
+
+  pub drawn-only : Demand3 w
+  drawn-only = subst Demand3 (sym (c .is)) (record {
+    smallest = drawing (c .tree) .smallest;
+    numbered = drawing (c .tree) .numbered;
+    only = table-only (c .tree);
+  })
+
+pub drawn-same : (p q : List ℕ) (l m : Room) (w v : Table) → drawn p l ≡ given w → drawn q m ≡ given v → (w ≡ v) ↔ SamePatterns p q
+drawn-same p q l m w v e f = both (when-given p l w e) (when-given q m v f)
   where
-    both : {p q : List ℕ} {l m : Room} {w v : Table} → Compiled p l w → Compiled q m v → (w ≡ v) ↔ OnStretches (λ t s e. PatternMatch p t s e ↔ PatternMatch q t s e)
-    both {p} {q} {w = w} {v = v} c d = (
+    both : Compiled p l w → Compiled q m v → (w ≡ v) ↔ SamePatterns p q
+    both c d = (
       λ e. let h : SameMatches (c .tree) (d .tree) = one-table (c .tree) (d .tree) .0 (sym (c .is) ∙ e ∙ d .is) in
           λ t b s e se le. (λ x. yours t s e .0 (h t b s e se le .0 (mine t s e .1 x)), λ x. mine t s e .0 (h t b s e se le .1 (yours t s e .1 x))),
       λ h. c .is ∙ one-table (c .tree) (d .tree) .1 (λ t b s e se le. (λ x. yours t s e .1 (h t b s e se le .0 (mine t s e .0 x)), λ x. mine t s e .1 (h t b s e se le .1 (yours t s e .0 x)))) ∙ sym (d .is),

@@ -4,6 +4,7 @@ use mathlib.Core.Logic.{_↔_}
 use mathlib.Core.List.{List}
 use mathlib.Core.Option.{Option, none, some}
 use Prim.Native.Nat.{ℕ, _≤_}
+use native.Mathlib.Omega.{arith}
 use lib.Dec.{T, eqb}
 use lib.ListN.{length}
 use lib.Seq.{slice}
@@ -103,18 +104,25 @@ one-meaning X Y w x y t h s e se le = (λ z. y t h s e se le .0 (x t h s e se le
 right-too : (X Y : Tree) (w : Table) → Right w X → SameMatches X Y → Right w Y
 right-too X Y w x f t h s e se le = (λ z. f t h s e se le .0 (x t h s e se le .0 z), λ z. x t h s e se le .1 (f t h s e se le .1 z))
 
--- a numbered table no two of whose rows go alike, if it is right
-merged-once : (X : Tree) (w : Table) → Formed w → Exact w → Numbered w → Merged w → Right w X → w ≡ compiled X
-merged-once X w good own n d right = equal w (compiled X) good (formed X) n (numbered X) d (rows-merged X) (both-right X w (compiled X) right (table-right X)) own (exact X)
+-- a numbered table no two of whose rows go alike is it, if it takes the same stretches
+merged-once : (X : Tree) (w : Table) → Formed w → Exact w → Numbered w → Merged w → Alike w (compiled X) → w ≡ compiled X
+merged-once X w good own n d like = equal w (compiled X) good (formed X) n (numbered X) d (rows-merged X) like own (exact X)
 
--- no second table is the drawing of a tree
+-- a table in the same numbering that takes the same stretches with no more rows is it
+only-one : (X : Tree) (w : Table) → Formed w → Exact w → Numbered w → Alike w (compiled X) → w .count ≤ compiled X .count → w ≡ compiled X
+only-one X w good own n like few = merged-once X w good own n (smallest-merged (compiled X) w (formed X) (numbered X) (rows-merged X) good like few) like
+
+-- so it is the only one in its numbering
+pub table-only : (X : Tree) (w : Table) → Formed w → Exact w → Numbered w → Alike w (compiled X) → w .count ≡ compiled X .count → w ≡ compiled X
+table-only X w good own n like e = only-one X w good own n like (omega arith)
+
+-- and no second table is the drawing of a tree
 pub drawing-once : (X : Tree) (w : Table) → Drawing X w → w ≡ compiled X
-drawing-once X w p = merged-once X w (p .formed) (p .exact) (p .numbered)
-    (smallest-merged (compiled X) w (formed X) (numbered X) (rows-merged X) (p .formed) (both-right X w (compiled X) (p .right) (table-right X))
-    (p .smallest (compiled X) (formed X) (both-right X (compiled X) w (table-right X) (p .right)))) (p .right)
+drawing-once X w p = only-one X w (p .formed) (p .exact) (p .numbered) (both-right X w (compiled X) (p .right) (table-right X))
+    (p .smallest (compiled X) (formed X) (both-right X (compiled X) w (table-right X) (p .right)))
 
 pub one-table : OneTable
 one-table X Y = (
   λ e. one-meaning X Y (compiled X) (table-right X) (subst (λ (w : Table). Right w Y) (sym e) (table-right Y)),
-  λ f. merged-once Y (compiled X) (formed X) (exact X) (numbered X) (rows-merged X) (right-too X Y (compiled X) (table-right X) f),
+  λ f. merged-once Y (compiled X) (formed X) (exact X) (numbered X) (rows-merged X) (both-right Y (compiled X) (compiled Y) (right-too X Y (compiled X) (table-right X) f) (table-right Y)),
 )

@@ -19,9 +19,8 @@ pub mod Closing
 pub mod RowsRight
 pub mod RowsListed
 pub mod SetRowsAll
--- a row that a byte leads to is fixed by the nodes it was taken from
+-- what a tree's edges keep to
 pub mod TidyNodes
-pub mod Taken
 -- merged, they make its drawing, the only one
 pub mod Classes
 pub mod Unique
@@ -35,5 +34,7 @@ pub mod LentTable
 pub mod Refusals
 pub mod MatchersOnce
 pub mod CompileOnce
+-- what is demanded
+pub mod Demands
 -- the listing
 pub mod RunsLongest

@@ -1,5 +1,5 @@
--- Laws of a table: when it is well formed, where reading leads, what is longest, and when a matcher refuses.
-use mathlib.Core.Path.{_≡_, refl, sym, ap, ap₂, _∙_}
+-- Laws of a table: when it is well formed, where reading leads, what is longest, when a matcher refuses, and when two are the same.
+use mathlib.Core.Path.{_≡_, refl, sym, ap, ap₂, subst, _∙_}
 use mathlib.Core.Logic.{_↔_, _⊎_, inl, inr, ⊎-elim}
 use mathlib.Core.Bool.{Bool, true, false, _&&_, and-true, and-assoc, and-eq-true-iff, _||_}
 use mathlib.Core.List.{List, [], _∷_, _++_, append-nil}
@@ -8,15 +8,17 @@ use Prim.Native.Nat.{ℕ, zero, suc, _+_, _*_, _-_, _≤_, _<_}
 use native.Mathlib.Nat.{add-zero, sub-self}
 use native.Mathlib.Omega.{arith}
 use native.Mathlib.Numerals.{add-one}
-use lib.Dec.{leb, ltb, eqb}
+use lib.Dec.{T, leb, ltb, eqb, eqb→eq}
 use lib.ListN.{length, getD, take}
 use lib.Seq.{slice, slice-empty, length-take-le, getD-take}
 use borrow.Author.Tests.{leb-true, ltb-true, eqb-true, le-leb, lt-ltb, le-ltb, eq-eqb, ne-eqb}
-use Rattle.rules.specs.Tools.{upFrom, all, kept, last}
+use Rattle.rules.specs.Tools.{upFrom, all, kept, last, same}
 use Rattle.rules.specs.Sizes.{rowsMost, textMost}
-use Rattle.rules.specs.Table.{Table, cell, after, begins, fits, takes, Mark, isMark, Formed, WellFormed, wellFormed, whole, longest}
+use Rattle.rules.specs.Table.{Table, cell, after, begins, fits, takes, Mark, isMark, Formed, WellFormed, wellFormed, sameTable, whole, longest}
 use Rattle.rules.specs.Answers.{refusal, Answer, refused, given}
 use Rattle.rules.specs.Matchers.{checked, longestAnswer}
+use Rattle.rules.proofs.Tests.{both as both-hold, both-left, both-right, eq-test}
+use Rattle.rules.proofs.Lists.{same-eq, same-refl}
 use Rattle.rules.proofs.Texts.{slice-more}
 
 -- ---- all
@@ -296,3 +298,24 @@ pub longest-start : (w : Table) (t : List ℕ) (s : ℕ) → wellFormed w ≡ tr
 unfolding longestAnswer
 longest-start w t s e h b f =
     checked-past w t _ e h ∙ ap (λ (b : Bool). elim b [ true ↦ refused (refusal 14 0) | false ↦ given (longest w t s) ]) f
+
+-- ---- the test of two tables
+
+pub same-tables : (w v : Table) → T (sameTable w v) ↔ (w ≡ v)
+unfolding sameTable
+same-tables w v = (equal, λ e. subst (λ (u : Table). T (sameTable w u)) e itself)
+  where
+    itself : T (sameTable w w)
+    itself =
+        both-hold (eqb (w .count) (w .count)) _ (eq-test (w .count) (w .count) refl)
+        (both-hold (eqb (w .head) (w .head)) _ (eq-test (w .head) (w .head) refl) (both-hold (same (w .marks) (w .marks)) _ (same-refl (w .marks)) (same-refl (w .cells))))
+
+    equal : T (sameTable w v) → w ≡ v
+    equal h =
+        let rest : T (eqb (w .head) (v .head) && (same (w .marks) (v .marks) && same (w .cells) (v .cells))) = both-right (eqb (w .count) (v .count)) _ h in
+        let lists : T (same (w .marks) (v .marks) && same (w .cells) (v .cells)) = both-right (eqb (w .head) (v .head)) _ rest in
+        let counts : w .count ≡ v .count = eqb→eq (w .count) (v .count) (both-left (eqb (w .count) (v .count)) _ h) in
+        let heads : w .head ≡ v .head = eqb→eq (w .head) (v .head) (both-left (eqb (w .head) (v .head)) _ rest) in
+        let marks : w .marks ≡ v .marks = same-eq (w .marks) (v .marks) (both-left (same (w .marks) (v .marks)) _ lists) in
+        let cells : w .cells ≡ v .cells = same-eq (w .cells) (v .cells) (both-right (same (w .marks) (v .marks)) _ lists) in
+        λ i. record { count = counts i; head = heads i; marks = marks i; cells = cells i }

@@ -4,7 +4,7 @@ use mathlib.Core.Logic.{_⊎_}
 use mathlib.Core.List.{List, [], _∷_}
 use Prim.Native.Nat.{ℕ}
 
--- the paper's number, its place, and the values that the paper gives with it
+-- the number of the rules, its place, and the values that come with it
 pub record Refusal : Type 0 where
   pub number : ℕ
   pub place : ℕ

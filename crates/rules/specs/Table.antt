@@ -8,7 +8,7 @@ use Prim.Native.Nat.{ℕ, zero, suc, _+_, _-_, _*_, _≤_, _<_}
 use lib.Dec.{T, leb, ltb, eqb}
 use lib.ListN.{length, getD, take}
 use lib.Seq.{slice}
-use Rattle.rules.specs.Tools.{upFrom, all, any, kept, last}
+use Rattle.rules.specs.Tools.{upFrom, all, any, kept, last, same}
 use Rattle.rules.specs.Sizes.{rowsMost}
 
 -- R, the head row, and the lent marks and cells, which may go on past the R rows
@@ -71,6 +71,11 @@ unfoldable pub wellFormed : Table → Bool
 wellFormed w =
     leb 1 (w .count) && (leb (w .count) rowsMost && (leb (w .count) (length (w .marks)) && (leb (256 * w .count) (length (w .cells)) && (ltb (w .head) (w .count)
     && (all (λ c. ltb c (w .count)) (take (256 * w .count) (w .cells)) && all isMark (take (w .count) (w .marks)))))))
+
+-- ---- the same, number for number
+
+unfoldable pub sameTable : Table → Table → Bool
+sameTable w v = eqb (w .count) (v .count) && (eqb (w .head) (v .head) && (same (w .marks) (v .marks) && same (w .cells) (v .cells)))
 
 -- ---- the four answers by the table's rule, computed
 

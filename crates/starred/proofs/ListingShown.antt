@@ -1,4 +1,4 @@
--- The listing of `^a` is the paper's, byte for byte.
+-- The listing of `^a` is that of docs/RULES.md, byte for byte.
 use mathlib.Core.Path.{_≡_, refl}
 use mathlib.Core.List.{List, _++_}
 use Prim.Native.Nat.{ℕ}

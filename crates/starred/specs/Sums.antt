@@ -1,23 +1,21 @@
--- "Sums worked on paper": the starred ones, as questions about a pattern and what the paper says.
+-- "Sums": the starred ones, and the numbers of nodes, as questions about a pattern and what the rules say.
 use mathlib.Core.Path.{_≡_}
-use mathlib.Core.Bool.{Bool, true, false, _&&_}
+use mathlib.Core.Bool.{Bool, true, false}
 use mathlib.Core.List.{List, [], _∷_}
 use mathlib.Core.Option.{Option, none, some}
 use Prim.Native.Nat.{ℕ, _<_}
 use Prim.Native.String.{String}
-use lib.Dec.{eqb}
 use lib.ListN.{length, getD}
-use Rattle.rules.specs.Tools.{same, bytesOf}
+use Rattle.rules.specs.Tools.{bytesOf}
 use Rattle.rules.specs.Tree.{Tree}
+use Rattle.rules.specs.Nodes.{nodeCount}
 use Rattle.rules.specs.SetRows.{rowCount}
-use Rattle.rules.specs.Table.{Table, cell, longest, starts}
+use Rattle.rules.specs.Table.{Table, cell, sameTable, longest, starts}
 use Rattle.rules.specs.Compiled.{compiled}
 use Rattle.rules.specs.Reader.{got, bad, read}
 
-unfoldable pub sameTable : Table → Table → Bool
-sameTable w v = eqb (w .count) (v .count) && (eqb (w .head) (v .head) && (same (w .marks) (v .marks) && same (w .cells) (v .cells)))
-
 pub data Question : Type 0 where
+  nodes : Question  -- how many nodes it has
   setRows : Question  -- S
   shape : Question  -- R, the head row and the marks
   goes : ℕ → ℕ → Question  -- the row that a row goes to on a byte
@@ -34,6 +32,7 @@ yesNo true = 1 ∷ []
 yesNo false = 0 ∷ []
 
 abbrev pub answer : Tree → Question → List ℕ
+answer X nodes = nodeCount X ∷ []
 answer X setRows = rowCount X ∷ []
 answer X shape = let w : Table = compiled X in w .count ∷ w .head ∷ w .marks
 answer X (goes q b) = cell (compiled X) q b ∷ []
@@ -65,6 +64,8 @@ sums =
     ∷ sum ".*" setRows (3 ∷ []) ∷ sum ".*" shape (1 ∷ 0 ∷ 3 ∷ [])
     ∷ sum "a*" (longestIn "aab" 0) (2 ∷ []) ∷ sum "a*" (longestIn "aab" 2) (2 ∷ [])
     ∷ sum "a$" (startsIn "aa") (1 ∷ []) ∷ sum "^a" (startsIn "aa") (0 ∷ []) ∷ sum "$" (startsIn "") (0 ∷ [])
+    ∷ sum "(a{255}){4}" nodes (2040 ∷ []) ∷ sum "(a{255}){4}a{4}" nodes (2048 ∷ []) ∷ sum "(a{255}){4}a{5}" nodes (2050 ∷ [])
+    ∷ sum "(((a{255}){255}){255}){0}" nodes (2 ∷ [])
     ∷ []
 
 abbrev pub entry : ℕ → Sum

@@ -1,1 +1,1 @@
-// The starred sums of the paper and its listing, proved about the definitions of rules. There is no code here.
+// The starred sums of docs/RULES.md, its numbers of nodes and its listing, proved about the definitions of rules. There is no code here.

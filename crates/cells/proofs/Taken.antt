@@ -6,13 +6,14 @@ use Prim.Native.Nat.{ℕ, zero, suc, _+_, _-_, _*_, _/_, _<_, _≤_, _^_}
 use native.Mathlib.Omega.{arith}
 use lib.Dec.{T, eqb}
 use lib.Pow.{pow-pos}
 use Rattle.rules.specs.Tools.{has}
 use Rattle.rules.specs.Nodes.{Kind, empty, onHead, onTail, onBytes, Edge}
 use Rattle.rules.specs.SetRows.{onEmpty, onByte, across, closure, SetRow, Machine, inside, next}
 use Rattle.rules.proofs.Sets.{bit, bit-zero, bit-suc, has-bit, same-members, zero-has}
 use Rattle.rules.proofs.Edges.{_∈_}
 use Rattle.rules.proofs.Closing.{across-lt, across-adds, across-ind, closed-keeps, closed-ind}
 use Rattle.rules.proofs.TidyNodes.{isBytes, Neat}
+use Rattle.cells.specs.Taken.{Taken}
 
 -- ---- sets
 
@@ -33,21 +34,6 @@ same-set m q h = same-members (m + q) m q (small (m + q) m (omega arith)) (small
     small : (n x : ℕ) → x ≤ n → x < 2 ^ n
     small zero x l = omega arith
     small (suc n) x l = omega (arith, small n (x - 1) (omega arith))
-
--- ---- what is taken
-
-module _ (w : Machine) where
-  -- an edge that is crossed on byte b leaves the node
-  abbrev pub Leaves : ℕ → ℕ → Type 0
-  Leaves b u = (x : Edge) × (x ∈ w .links) × T (onByte b (x .on)) × (x .from ≡ u)
-
-  -- M holds the nodes that such an edge leaves
-  pub record Leaving (b M : ℕ) : Type 0 where
-    pub just : (u : ℕ) → T (has M u) ↔ Leaves b u
-
-  -- A holds those of them that are in the row
-  pub record Taken (r : SetRow) (b A : ℕ) : Type 0 where
-    pub just : (u : ℕ) → T (has A u) ↔ (T (has (r .nodes) u) × Leaves b u)
 
 -- ---- the row of a taken set
 

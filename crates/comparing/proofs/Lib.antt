@@ -1,0 +1,7 @@
+pub mod ByPlace
+pub mod TableTest
+pub mod Drawn
+pub mod LineLaws
+pub mod LinesOnce
+pub mod ComparisonOnce
+pub mod Beginnings
