@@ -8,10 +8,18 @@
    Nothing is kept after a call, nothing is allocated, and calls on different parts may run at once. Beside that, everything may be
    lent: any bytes, any numbers, any lengths.
 
-   Answers. Each function answers one number; 0 is success. A number that is lent for an answer is left as it was where the answer
-   has nothing to say there. Places and positions count bytes from 0.
+   Answers. jorvimest_well_formed answers true or false. Every other function answers one number, and 0 is success. A number that is
+   lent for an answer is left as it was where the answer has nothing to say there. Places and positions count bytes from 0.
 
-   The library is proved to do what is said here; link target/staticlib/libjorvimest.a. */
+   Time. To check a table its 256 * R cells are looked at once, by first and starts up to twice. Beside that, in a text of n bytes,
+   whole and longest look at no more than n cells, first at no more than n * (R + 5), and starts at no more than n * (2 * R + 1), or
+   twice as many where its list has fewer than n + 1 places.
+
+   Trust. What is said here is proved, but for the time and the stack. Beside the definitions and the prover, this is taken on trust:
+   the toolchain's front end and back end; the stack, which the proofs do not speak of; and these declarations, which a test compares
+   with the library's source only as they are spelled.
+
+   Link target/staticlib/libjorvimest.a, which is for Linux on x86-64. */
 #ifndef JORVIMEST_H
 #define JORVIMEST_H
 
@@ -22,6 +30,13 @@
 #ifdef __cplusplus
 extern "C" {
 #endif
+
+/* The version, and the toolchain that it was made with, as `rt version` names it. */
+#define JORVIMEST_VERSION "0.0.2"
+#define JORVIMEST_VERSION_MAJOR 0
+#define JORVIMEST_VERSION_MINOR 0
+#define JORVIMEST_VERSION_PATCH 2
+#define JORVIMEST_TOOLCHAIN "rattle-kit-5b logic 064da1ca440f63e7"
 
 /* Sizes: bytes of a pattern, groups open at once, nodes of a pattern, rows of a table, bytes of a text, at most. */
 #define JORVIMEST_PATTERN_MOST 1024
@@ -34,6 +49,11 @@ extern "C" {
 #define JORVIMEST_CELLS_A_ROW 256
 #define JORVIMEST_MARKS_A_ROW 1
 #define JORVIMEST_WORDS_A_ROW 32
+
+/* Stack: the bytes that a call of jorvimest_compile needs at most, and a call of any other function; measured, with a margin. Where
+   there are fewer, a call may end the program at the guard page below the stack. */
+#define JORVIMEST_STACK_COMPILE 163840
+#define JORVIMEST_STACK_OTHERS 16384
 
 /* The numbers of what is turned away, and the place that comes with each. */
 #define JORVIMEST_TOO_LONG 1    /* pattern over 1,024 bytes: 1,024 */

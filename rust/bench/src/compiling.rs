@@ -1,4 +1,4 @@
-//! Compiling in exact room: the proved library beside the model, which does the same in plain Rust, and beside the paper.
+//! Compiling in exact room: the proved library beside the model, which does the same in plain Rust, and beside `paper`.
 use crate::patterns::{usual, worst, Pattern};
 use std::hint::black_box;
 use std::time::{Duration, Instant};
@@ -54,7 +54,7 @@ fn least<const N: usize>(mut all: [&mut dyn FnMut(); N]) -> [f64; N] {
     best
 }
 
-/// Compares and prints; the ratio to the model. The paper is too slow for patterns that are made to be slow.
+/// Compares and prints; the ratio to the model. `paper` is too slow for patterns that are made to be slow.
 fn race(pattern: &Pattern, with_paper: bool) -> f64 {
     let Pattern { name, bytes } = pattern;
     let rows = set_rows(bytes);

@@ -2,6 +2,7 @@
 use crate::race;
 use jorvimest::Lent;
 use std::hint::black_box;
+use std::ops::Range;
 use std::time::Instant;
 
 /// The row that nothing leads out of and that makes no match, if there is one.
@@ -12,12 +13,12 @@ fn dead_end(t: &Lent) -> usize {
 }
 
 /// The longest end of a match from s, read up to a dead end.
-fn plain_longest(t: &Lent, dead: usize, text: &[u8], s: usize) -> Option<u32> {
+fn plain_longest(t: &Lent, dead: usize, text: &[u8], s: usize) -> Option<usize> {
     let mut q = if s == 0 { t.head as usize } else { 0 };
     let mut best = None;
     for (p, &b) in text.iter().enumerate().skip(s) {
         if t.marks[q] == 3 {
-            best = Some(p as u32);
+            best = Some(p);
         }
         q = t.cells[256 * q + b as usize] as usize;
         if q == dead {
@@ -25,14 +26,14 @@ fn plain_longest(t: &Lent, dead: usize, text: &[u8], s: usize) -> Option<u32> {
         }
     }
     if t.marks[q] != 0 {
-        best = Some(text.len() as u32);
+        best = Some(text.len());
     }
     best
 }
 
-fn plain_first(t: &Lent, text: &[u8]) -> Option<(u32, u32)> {
+fn plain_first(t: &Lent, text: &[u8]) -> Option<Range<usize>> {
     let dead = dead_end(t);
-    (0..=text.len()).find_map(|s| plain_longest(t, dead, text, s).map(|e| (s as u32, e)))
+    (0..=text.len()).find_map(|s| plain_longest(t, dead, text, s).map(|e| s..e))
 }
 
 /// Whether some stretch from s matches, read up to the first match or a dead end.

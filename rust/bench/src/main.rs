@@ -22,31 +22,41 @@ fn plain_check(t: &Lent) -> bool {
 }
 
 /// One load a byte, no bounds checks.
+///
+/// # Safety
+/// The table is well formed.
 #[inline(never)]
-fn plain_whole(t: &Lent, text: &[u8]) -> bool {
+unsafe fn plain_whole(t: &Lent, text: &[u8]) -> bool {
     let mut q = t.head;
     for &b in text {
+        // SAFETY: q is a row, as the head row and every cell of a well-formed table are, and each row has 256 cells
         q = unsafe { *t.cells.get_unchecked(256 * q as usize + b as usize) };
     }
+    // SAFETY: q is a row, and each has a mark
     let mark = unsafe { *t.marks.get_unchecked(q as usize) };
     mark == 3 || mark == 2
 }
 
+/// # Safety
+/// The table is well formed.
 #[inline(never)]
-fn plain_longest(t: &Lent, text: &[u8], start: usize) -> Option<u32> {
+unsafe fn plain_longest(t: &Lent, text: &[u8], start: usize) -> Option<usize> {
     let mut q = if start == 0 { t.head } else { 0 };
     let mut best = None;
     for p in start..text.len() {
+        // SAFETY: q is a row, as row 0, the head row and every cell of a well-formed table are; each row has a mark and 256 cells; p is
+        // below the text's length
         unsafe {
             if *t.marks.get_unchecked(q as usize) == 3 {
-                best = Some(p as u32);
+                best = Some(p);
             }
             q = *t.cells.get_unchecked(256 * q as usize + *text.get_unchecked(p) as usize);
         }
     }
+    // SAFETY: q is a row, and each has a mark
     let mark = unsafe { *t.marks.get_unchecked(q as usize) };
     if mark == 3 || mark == 2 {
-        best = Some(text.len() as u32);
+        best = Some(text.len());
     }
     best
 }
@@ -100,7 +110,11 @@ fn walks() {
         let text: Vec<u8> = (0..1048576).map(|_| random() as u8).collect();
         let t = Lent { rows, head: 1, cells: &cells, marks: &marks };
         assert!(t.well_formed() && plain_check(&t));
-        assert_eq!(t.whole(&text), Ok(plain_whole(&t, &text)));
+        // SAFETY: it is given t alone, which is well formed
+        let plain_whole = |t: &Lent| unsafe { plain_whole(t, &text) };
+        // SAFETY: the same
+        let plain_longest = |t: &Lent, start| unsafe { plain_longest(t, &text, start) };
+        assert_eq!(t.whole(&text), Ok(plain_whole(&t)));
         race(
             &format!("table check, {rows} rows, 100 times"),
             || (0..100).for_each(|_| assert!(black_box(&t).well_formed())),
@@ -110,14 +124,14 @@ fn walks() {
         race(
             &format!("whole, {rows} rows, 1 MiB"),
             || _ = black_box(black_box(&t).whole(&text)),
-            || _ = black_box(plain_whole(black_box(&t), &text)),
+            || _ = black_box(plain_whole(black_box(&t))),
         );
-        for start in [0u32, 1] {
-            assert_eq!(t.longest(&text, start), Ok(plain_longest(&t, &text, start as usize)));
+        for start in [0, 1] {
+            assert_eq!(t.longest(&text, start), Ok(plain_longest(&t, start)));
             race(
                 &format!("longest from {start}, {rows} rows, 1 MiB"),
                 || _ = black_box(black_box(&t).longest(&text, start)),
-                || _ = black_box(plain_longest(black_box(&t), &text, start as usize)),
+                || _ = black_box(plain_longest(black_box(&t), start)),
             );
         }
     }

@@ -9,7 +9,7 @@ fn of(name: &'static str, parts: &[&[u8]]) -> Pattern {
     Pattern { name, bytes: parts.concat() }
 }
 
-/// Those that are compiled every day, and those of the paper's sums.
+/// Those that are compiled every day, and those of the sums of docs/RULES.md.
 pub fn usual() -> Vec<Pattern> {
     let supplier = b"^([0-9]{4}-(0[1-9]|1[0-2])-(0[1-9]|[12][0-9]|3[01]));([01][0-9]|2[0-3]):[0-5][0-9];DE[0-9]{11}[0-9A-Z]{20};\
         (-?[0-9]{1,7}(,[0-9]{1,3})?)?;(kWh|MWh|kW);(V|E|W|N)?;[^;\"]*\r?\n?$";

@@ -1,4 +1,4 @@
-//! Random patterns compiled in lent room of any size with something in it, against the paper; then the listing and the four
+//! Random patterns compiled in lent room of any size with something in it, against `paper`; then the listing and the four
 //! matchers over the compiled table, against the pattern's meaning.
 use crate::patterns::pattern;
 use crate::Random;
@@ -134,13 +134,14 @@ fn text(random: &mut Random, pattern: &[u8]) -> Vec<u8> {
 fn compare_matches(table: &Table, tree: &Tree, text: &[u8], name: &str) {
     let n = text.len();
     let ends: Vec<Vec<usize>> = (0..=n).map(|s| paper::meaning::from(tree, text, s)).collect();
-    let longest: Vec<Option<u32>> = ends.iter().map(|all| all.last().map(|&e| e as u32)).collect();
-    let starts: Vec<u32> = (0..=n as u32).filter(|&s| longest[s as usize].is_some()).collect();
+    let longest: Vec<Option<usize>> = ends.iter().map(|all| all.last().copied()).collect();
+    let starts: Vec<usize> = (0..=n).filter(|&s| longest[s].is_some()).collect();
     assert_eq!(table.whole(text), Ok(ends[0].contains(&n)), "whole, {name}");
     for (s, &end) in longest.iter().enumerate() {
-        assert_eq!(table.longest(text, s as u32), Ok(end), "longest from {s}, {name}");
+        assert_eq!(table.longest(text, s), Ok(end), "longest from {s}, {name}");
     }
-    let first = starts.first().map(|&s| (s, longest[s as usize].unwrap()));
+    let first = starts.first().map(|&s| s..longest[s].unwrap());
+    assert_eq!(table.first_part(text), Ok(first.clone().map(|part| &text[part])), "the part that is first, {name}");
     assert_eq!(table.first(text), Ok(first), "first, {name}");
     assert_eq!(table.starts(text), Ok(starts), "starts, {name}");
 }

@@ -1,4 +1,4 @@
-//! The proved library beside the paper's words, case by case. A difference stops the run and names the case; the same seed
+//! The proved library beside `paper`, case by case. A difference stops the run and names the case; the same seed
 //! makes the same cases.
 
 pub mod compiling;

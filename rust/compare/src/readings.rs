@@ -1,4 +1,4 @@
-//! The proved reader beside the paper's, by way of text: a line for each pattern, and the answers that the program `readings` prints.
+//! The proved reader beside that of `paper`, by way of text: a line for each pattern, and the answers that the program `readings` prints.
 use paper::pattern::{read, Tree};
 
 /// The line of a pattern: `%` and two digits for a byte that can't be seen, and for `%`.
@@ -52,7 +52,7 @@ fn classes(pattern: &[u8]) -> usize {
     count
 }
 
-/// What the program prints of a pattern, by the paper: the words of its program, four more for each class; or the refusal.
+/// What the program prints of a pattern, by `paper`: the words of its program, four more for each class; or the refusal.
 fn answer(pattern: &[u8]) -> String {
     match read(pattern) {
         Ok(tree) => format!("words {}", words(&tree) + 4 * classes(pattern)),
@@ -71,7 +71,7 @@ pub fn tally(patterns: impl Iterator<Item = Vec<u8>>) -> Tally {
     tally
 }
 
-/// Holds printed answers to the paper's, one for each pattern.
+/// Holds printed answers to those of `paper`, one for each pattern.
 pub fn check(patterns: &[Vec<u8>], answers: &str) {
     assert_eq!(answers.lines().count(), patterns.len(), "answers, and patterns");
     for (pattern, found) in patterns.iter().zip(answers.lines()) {

@@ -43,6 +43,15 @@ fn table(random: &mut Random) -> Made {
     made
 }
 
+/// A start in the text, or past its end by a little or by so much that 32 bits do not hold it.
+fn start(random: &mut Random, length: usize) -> usize {
+    let near = random.below(length as u64 + 3) as usize;
+    match random.below(10) {
+        0 => random.one_of(&[u32::MAX as usize, (1 << 32) + near, usize::MAX]),
+        _ => near,
+    }
+}
+
 /// Compares every matcher on so many tables and texts; how many were refused, and how many had a longest end.
 pub fn compare(cases: u32, seed: u64) -> (u32, u32) {
     let mut random = Random::new(seed);
@@ -52,36 +61,48 @@ pub fn compare(cases: u32, seed: u64) -> (u32, u32) {
         let length = if random.below(20_000) == 0 { 1_048_577 } else { random.below(20) as usize };
         let letters = 1 + random.below(4);
         let text: Vec<u8> = (0..length).map(|_| (97 + random.below(letters)) as u8).collect();
-        let start = random.below(length as u64 + 3) as u32;
+        let start = start(&mut random, length);
+        let name = format!("seed {seed}, case {case}");
 
         let proved = Lent { rows: made.rows, head: made.head, cells: &made.cells, marks: &made.marks };
         let paper = find::Lent { rows: made.rows as usize, head: made.head as usize, cells: &made.cells, marks: &made.marks };
         let number = |(number, _)| number;
-        assert_eq!(proved.well_formed(), paper.whole(&[]).is_ok(), "seed {seed}, case {case}");
-        assert_eq!(proved.whole(&text).map_err(Refusal::number), paper.whole(&text).map_err(number), "seed {seed}, case {case}");
+        assert_eq!(proved.well_formed(), paper.whole(&[]).is_ok(), "{name}");
+        assert_eq!(proved.whole(&text).map_err(Refusal::number), paper.whole(&text).map_err(number), "{name}");
         let longest = paper.longest(&text, start).map_err(number);
-        assert_eq!(proved.longest(&text, start).map_err(Refusal::number), longest, "seed {seed}, case {case}");
-        assert_eq!(proved.first(&text).map_err(Refusal::number), paper.first(&text).map_err(number), "seed {seed}, case {case}");
-        let places = random.below(2 + length.min(20) as u64) as usize;
-        let before: Vec<u32> = (0..places as u32).map(|i| 7_000_000 + i).collect();
-        let mut list = before.clone();
-        let count = proved.starts_into(&text, &mut list).map_err(|r| match r {
-            Refusal::FewPlaces(all) => (15, all),
-            _ => (r.number(), 0),
-        });
-        match paper.starts(&text, places) {
-            Err(((n, _), all)) => {
-                assert_eq!(count, Err((n, all)), "seed {seed}, case {case}");
-                assert_eq!(list, before, "seed {seed}, case {case}");
-            }
-            Ok(all) => {
-                assert_eq!(count, Ok(all.len()), "seed {seed}, case {case}");
-                assert_eq!(list[..all.len()], all[..], "seed {seed}, case {case}");
-                assert_eq!(list[all.len()..], before[all.len()..], "seed {seed}, case {case}");
-            }
-        }
+        assert_eq!(proved.longest(&text, start).map_err(Refusal::number), longest, "{name}, from {start}");
+        let first = paper.first(&text).map_err(number).map(|found| found.map(|(s, e)| s..e));
+        assert_eq!(proved.first(&text).map_err(Refusal::number), first, "{name}");
+        // the part is the text's own, not only equal to it
+        let part = proved.first_part(&text).map_err(Refusal::number).map(|found| found.map(<[u8]>::as_ptr_range));
+        assert_eq!(part, first.map(|found| found.map(|part| text[part].as_ptr_range())), "{name}");
+        compare_starts(&proved, &paper, &text, random.below(2 + length.min(20) as u64) as usize, &name);
         refused += longest.is_err() as u32;
         found += matches!(longest, Ok(Some(_))) as u32;
     }
     (refused, found)
+}
+
+/// All starts, in a lent list with so many places and by value.
+fn compare_starts(proved: &Lent, paper: &find::Lent, text: &[u8], places: usize, name: &str) {
+    let before: Vec<u32> = (0..places as u32).map(|i| 7_000_000 + i).collect();
+    let mut list = before.clone();
+    let count = proved.starts_into(text, &mut list).map_err(|refusal| match refusal {
+        Refusal::FewPlaces(all) => (15, all as usize),
+        _ => (refusal.number(), 0),
+    });
+    match paper.starts(text, places) {
+        Err(((n, _), all)) => {
+            assert_eq!(count, Err((n, all)), "{name}");
+            assert_eq!(list, before, "{name}");
+        }
+        Ok(all) => {
+            assert_eq!(count, Ok(all.len()), "{name}");
+            let due: Vec<u32> = all.iter().map(|&s| s as u32).collect();
+            assert_eq!(list[..all.len()], due, "{name}");
+            assert_eq!(list[all.len()..], before[all.len()..], "{name}");
+        }
+    }
+    let all = paper.starts(text, usize::MAX).map_err(|((number, _), _)| number);
+    assert_eq!(proved.starts(text).map_err(Refusal::number), all, "{name}");
 }

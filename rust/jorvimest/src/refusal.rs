@@ -2,7 +2,7 @@ use crate::linked;
 use crate::text::{whole_text, Text};
 use std::fmt::{Display, Formatter, Result as Written};
 
-/// What is turned away, with the values that come with it.
+/// What is turned away, with the values that come with it. Later versions may turn away more, so a `match` has an arm for the rest.
 ///
 /// ```
 /// use jorvimest::{Refusal, Table};
@@ -13,6 +13,7 @@ use std::fmt::{Display, Formatter, Result as Written};
 /// assert_eq!(refusal.to_string(), "repeat sign with no atom before it, or after a repeat sign (2 at 2)");
 /// ```
 #[derive(Clone, Copy, Debug, PartialEq, Eq, Hash)]
+#[non_exhaustive]
 pub enum Refusal {
     /// 1: the pattern has over 1,024 bytes.
     TooLong,
@@ -161,6 +162,7 @@ impl Refusal {
     pub fn line(self) -> String {
         let written = whole_text(|out| {
             let mut length = 0;
+            // SAFETY: as in `over_table`: `out` is a slice's pointer with its length, `length` a number; both are lent mutably
             let code =
                 unsafe { linked::jorvimest_refusal(self.number(), self.place(), out.as_mut_ptr(), out.len(), &mut length) };
             Text::of(code, length)

@@ -29,13 +29,13 @@ impl Lent<'_> {
     }
 
     /// The ends of matches from s.
-    fn ends(&self, text: &[u8], s: usize) -> Vec<u32> {
+    fn ends(&self, text: &[u8], s: usize) -> Vec<usize> {
         let mut row = if s == 0 { self.head } else { 0 };
         let mut all = vec![];
         for e in s..=text.len() {
             let mark = self.marks[row];
             if mark == 3 || (mark == 2 && e == text.len()) {
-                all.push(e as u32);
+                all.push(e);
             }
             if e < text.len() {
                 row = self.cells[256 * row + text[e] as usize] as usize;
@@ -46,28 +46,28 @@ impl Lent<'_> {
 
     pub fn whole(&self, text: &[u8]) -> Result<bool, Refused> {
         self.refuses(text)?;
-        Ok(self.ends(text, 0).last() == Some(&(text.len() as u32)))
+        Ok(self.ends(text, 0).last() == Some(&text.len()))
     }
 
-    pub fn longest(&self, text: &[u8], s: u32) -> Result<Option<u32>, Refused> {
+    pub fn longest(&self, text: &[u8], s: usize) -> Result<Option<usize>, Refused> {
         self.refuses(text)?;
-        if s as usize > text.len() {
+        if s > text.len() {
             return Err((14, 0));
         }
-        Ok(self.ends(text, s as usize).last().copied())
+        Ok(self.ends(text, s).last().copied())
     }
 
-    pub fn first(&self, text: &[u8]) -> Result<Option<(u32, u32)>, Refused> {
+    pub fn first(&self, text: &[u8]) -> Result<Option<(usize, usize)>, Refused> {
         self.refuses(text)?;
-        Ok((0..=text.len()).find_map(|s| self.ends(text, s).last().map(|&e| (s as u32, e))))
+        Ok((0..=text.len()).find_map(|s| self.ends(text, s).last().map(|&e| (s, e))))
     }
 
     /// The starts, or 15 with their number where there are more than places.
-    pub fn starts(&self, text: &[u8], places: usize) -> Result<Vec<u32>, (Refused, u32)> {
+    pub fn starts(&self, text: &[u8], places: usize) -> Result<Vec<usize>, (Refused, usize)> {
         self.refuses(text).map_err(|r| (r, 0))?;
-        let all: Vec<u32> = (0..=text.len()).filter(|&s| !self.ends(text, s).is_empty()).map(|s| s as u32).collect();
+        let all: Vec<usize> = (0..=text.len()).filter(|&s| !self.ends(text, s).is_empty()).collect();
         if all.len() > places {
-            return Err(((15, 0), all.len() as u32));
+            return Err(((15, 0), all.len()));
         }
         Ok(all)
     }

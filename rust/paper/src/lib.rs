@@ -1,4 +1,4 @@
-//! The house rules once more, written from the paper alone and for clarity only: what the proved library is compared with.
+//! The house rules once more, written from their words alone and for clarity only: what the proved library is compared with.
 //! Nothing here is shared with it, and where there are several methods this takes another one.
 
 pub mod draw;

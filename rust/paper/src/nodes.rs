@@ -15,14 +15,18 @@ pub struct Nodes {
     sets: Vec<Set>,
     start: usize,
     end: usize,
+    most: usize,
 }
-
-const MOST: usize = 2048;
 
 impl Nodes {
     /// None where there are more than 2,048.
     pub fn of(tree: &Tree) -> Option<Nodes> {
-        let mut nodes = Nodes { edges: vec![], sets: vec![], start: 0, end: 0 };
+        Nodes::up_to(tree, 2048)
+    }
+
+    /// None where there are more than `most`.
+    pub fn up_to(tree: &Tree, most: usize) -> Option<Nodes> {
+        let mut nodes = Nodes { edges: vec![], sets: vec![], start: 0, end: 0, most };
         let (start, end) = nodes.add(tree)?;
         nodes.start = start;
         nodes.end = end;
@@ -34,7 +38,7 @@ impl Nodes {
     }
 
     fn node(&mut self) -> Option<usize> {
-        if self.edges.len() == MOST {
+        if self.edges.len() == self.most {
             return None;
         }
         self.edges.push(vec![]);
@@ -174,8 +178,9 @@ pub struct SetRows {
 }
 
 impl SetRows {
-    /// None where there are more than k.
+    /// None where there are more than k, or more than 16 bits number.
     pub fn of(nodes: &Nodes, k: usize) -> Option<SetRows> {
+        let k = k.min(1 << 16);
         let inside = nodes.close([nodes.start].into_iter(), |on| on == On::Empty);
         let head = nodes.close([nodes.start].into_iter(), |on| on == On::Empty || on == On::Head);
         let mut known = HashMap::from([(inside.clone(), 0)]);
