@@ -1,20 +1,19 @@
 -- What is said of an input: what is computed fits what is asked, no second text does, and when it is `same` or `not the same`.
-use mathlib.Core.Path.{_≡_, refl, sym, ap, ap₂, subst, _∙_}
+use mathlib.Core.Path.{_≡_, refl, sym, ap, ap₂, _∙_}
 use mathlib.Core.Logic.{_⊎_, inl, inr, _↔_}
 use mathlib.Core.Bool.{Bool, true, false}
 use mathlib.Core.List.{List, [], _∷_, _++_, append-nil}
 use Prim.Native.Nat.{ℕ, _≤_, _<_}
 use native.Mathlib.Decide.{decLt}
 use native.Mathlib.Omega.{arith}
-use lib.Dec.{T}
 use lib.ListN.{length, getD}
 use Rattle.rules.specs.Sizes.{patternMost}
 use Rattle.rules.specs.Table.{Table, sameTable}
 use Rattle.rules.specs.Answers.{refusal, Answer, refused, given}
 use Rattle.rules.specs.Compile.{drawn}
 use Rattle.rules.specs.Listing.{lineEnd}
-use Rattle.rules.proofs.Tests.{is-true, is-false}
 use Rattle.rules.specs.Demands.{SamePatterns}
+use Rattle.rules.proofs.Tests.{is-true, is-false, both-ways}
 use Rattle.rules.proofs.TableLaws.{same-tables}
 use Rattle.rules.proofs.CompileOnce.{drawn-refuses, drawn-same}
 use Rattle.writing.proofs.Cases.{if-true, if-false}
@@ -29,15 +28,15 @@ module _ (p : List ℕ) where
   abbrev Given : Type 0
   Given = (w : Table) × (drawn p fullRoom ≡ given w)
 
-  taken-given : Accepted p → Given
-  taken-given t = go (drawn p fullRoom) refl
+  accepted-given : Accepted p → Given
+  accepted-given t = go (drawn p fullRoom) refl
     where
       go : (d : Answer Table) → drawn p fullRoom ≡ d → Given
       go (refused r) e = absurd (t r (drawn-refuses p fullRoom r .0 e))
       go (given w) e = (w, e)
 
-  given-taken : (w : Table) → drawn p fullRoom ≡ given w → Accepted p
-  given-taken w e r due = let f : drawn p fullRoom ≡ refused r = drawn-refuses p fullRoom r .1 due in let z : _≡_ {A = ℕ} 0 1 = cc in omega arith
+  given-accepted : (w : Table) → drawn p fullRoom ≡ given w → Accepted p
+  given-accepted w e r due = let f : drawn p fullRoom ≡ refused r = drawn-refuses p fullRoom r .1 due in let z : _≡_ {A = ℕ} 0 1 = cc in omega arith
 
 -- ---- two patterns
 
@@ -50,39 +49,31 @@ module _ (p q : List ℕ) where
   verdict-fits = go (drawn p fullRoom) refl (drawn q fullRoom) refl
     where
       tables : (w v : Table) → drawn p fullRoom ≡ given w → drawn q fullRoom ≡ given v → (b : Bool) → sameTable w v ≡ b → Verdict p q (elim b [ true ↦ sameText | false ↦ differentText ])
-      tables w v e f true t = same (given-taken p w e) (given-taken q v f) (alike-tables w v e f .0 (same-tables w v .0 (is-true (sameTable w v) t)))
+      tables w v e f true t = same (given-accepted p w e) (given-accepted q v f) (alike-tables w v e f .0 (same-tables w v .0 (is-true (sameTable w v) t)))
       tables w v e f false t =
-          different (given-taken p w e) (given-taken q v f) (λ h. is-false (sameTable w v) t (same-tables w v .1 (alike-tables w v e f .1 h)))
+          different (given-accepted p w e) (given-accepted q v f) (λ h. is-false (sameTable w v) t (same-tables w v .1 (alike-tables w v e f .1 h)))
 
       go : (a : Answer Table) → drawn p fullRoom ≡ a → (b : Answer Table) → drawn q fullRoom ≡ b → Verdict p q (saidOfAnswers a b)
       go (given w) e (given v) f = tables w v e f (sameTable w v) refl
-      go (given w) e (refused s) f = second-refused (given-taken p w e) (drawn-refuses q fullRoom s .0 f)
-      go (refused r) e (given v) f = first-refused (drawn-refuses p fullRoom r .0 e) (given-taken q v f)
+      go (given w) e (refused s) f = second-refused (given-accepted p w e) (drawn-refuses q fullRoom s .0 f)
+      go (refused r) e (given v) f = first-refused (drawn-refuses p fullRoom r .0 e) (given-accepted q v f)
       go (refused r) e (refused s) f = both-refused (drawn-refuses p fullRoom r .0 e) (drawn-refuses q fullRoom s .0 f)
 
   verdict-of : (a b : Answer Table) → drawn p fullRoom ≡ a → drawn q fullRoom ≡ b → saidOfAnswers a b ≡ saidOfPatterns p q
   verdict-of a b e f = sym (ap₂ {C = List ℕ} saidOfAnswers e f)
 
-  test-true : (b : Bool) → T b → b ≡ true
-  test-true true t = refl
-  test-true false t = absurd t
-
-  test-false : (b : Bool) → (T b → ⊥) → b ≡ false
-  test-false true n = absurd (n tt)
-  test-false false n = refl
-
   verdict-only : {text : List ℕ} → Verdict p q text → text ≡ saidOfPatterns p q
   unfolding saidOfAnswers
   verdict-only (same a b h) =
-      let x = taken-given p a in let y = taken-given q b in
-      sym (if-true _ _ (test-true (sameTable (x .0) (y .0)) (same-tables (x .0) (y .0) .1 (alike-tables (x .0) (y .0) (x .1) (y .1) .1 h))))
+      let x = accepted-given p a in let y = accepted-given q b in
+      sym (if-true _ _ (both-ways (sameTable (x .0) (y .0)) true (λ t. tt, λ t. same-tables (x .0) (y .0) .1 (alike-tables (x .0) (y .0) (x .1) (y .1) .1 h))))
       ∙ verdict-of (given (x .0)) (given (y .0)) (x .1) (y .1)
   verdict-only (different a b n) =
-      let x = taken-given p a in let y = taken-given q b in
-      sym (if-false _ _ (test-false (sameTable (x .0) (y .0)) (λ t. n (alike-tables (x .0) (y .0) (x .1) (y .1) .0 (same-tables (x .0) (y .0) .0 t)))))
+      let x = accepted-given p a in let y = accepted-given q b in
+      sym (if-false _ _ (both-ways (sameTable (x .0) (y .0)) false (λ t. n (alike-tables (x .0) (y .0) (x .1) (y .1) .0 (same-tables (x .0) (y .0) .0 t)), λ t. absurd t)))
       ∙ verdict-of (given (x .0)) (given (y .0)) (x .1) (y .1)
-  verdict-only (first-refused {r} d b) = let y = taken-given q b in verdict-of (refused r) (given (y .0)) (drawn-refuses p fullRoom r .1 d) (y .1)
-  verdict-only (second-refused {s} a d) = let x = taken-given p a in verdict-of (given (x .0)) (refused s) (x .1) (drawn-refuses q fullRoom s .1 d)
+  verdict-only (first-refused {r} d b) = let y = accepted-given q b in verdict-of (refused r) (given (y .0)) (drawn-refuses p fullRoom r .1 d) (y .1)
+  verdict-only (second-refused {s} a d) = let x = accepted-given p a in verdict-of (given (x .0)) (refused s) (x .1) (drawn-refuses q fullRoom s .1 d)
   verdict-only (both-refused {r} {s} c d) = verdict-of (refused r) (refused s) (drawn-refuses p fullRoom r .1 c) (drawn-refuses q fullRoom s .1 d)
 
 -- ---- an input
@@ -114,8 +105,8 @@ module _ (input : List ℕ) where
 
 -- ---- when it is the one and when the other
 
-taken-short : (p : List ℕ) → Accepted p → length p ≤ patternMost
-taken-short p t = go (decLt patternMost (length p))
+accepted-short : (p : List ℕ) → Accepted p → length p ≤ patternMost
+accepted-short p t = go (decLt patternMost (length p))
   where
     go : Dec (patternMost < length p) → length p ≤ patternMost
     go (yes l) = absurd (t (refusal 1 patternMost) (inl (l, refl)))
@@ -123,7 +114,7 @@ taken-short p t = go (decLt patternMost (length p))
 
 -- two lines that compile are all of the input
 two-just : {input p q : List ℕ} → Accepted p → Accepted q → TwoLines input p q ↔ JustLines input p q
-two-just {input} {p} {q} a b = (λ h. record { first = h .first .unbroken; second = h .second .unbroken; is = all h (h .over (taken-short q b)) }, λ j. ends j (j .is))
+two-just {input} {p} {q} a b = (λ h. record { first = h .first .unbroken; second = h .second .unbroken; is = all h (h .over (accepted-short q b)) }, λ j. ends j (j .is))
   where
     all : (h : TwoLines input p q) → (h .rest ≡ []) ⊎ (h .rest ≡ lineEnd) → (input ≡ p ++ (10 ∷ q)) ⊎ (input ≡ p ++ (10 ∷ (q ++ lineEnd)))
     all h (inl e) = inl (h .first .is ∙ ap (λ (s : List ℕ). p ++ (10 ∷ s)) (h .second .is ∙ ap (λ (s : List ℕ). q ++ s) e ∙ append-nil q))
@@ -134,7 +125,7 @@ two-just {input} {p} {q} a b = (λ h. record { first = h .first .unbroken; secon
       after = q;
       rest = [];
       first = record { is = e; unbroken = j .first; ended = refl };
-      short = taken-short p a;
+      short = accepted-short p a;
       second = record { is = sym (append-nil q); unbroken = j .second; ended = tt };
       over = λ l. inl refl;
     }
@@ -142,7 +133,7 @@ two-just {input} {p} {q} a b = (λ h. record { first = h .first .unbroken; secon
       after = q ++ lineEnd;
       rest = lineEnd;
       first = record { is = e; unbroken = j .first; ended = refl };
-      short = taken-short p a;
+      short = accepted-short p a;
       second = record { is = refl; unbroken = j .second; ended = refl };
       over = λ l. inr refl;
     }

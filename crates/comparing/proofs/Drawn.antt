@@ -11,7 +11,7 @@ use Rattle.rules.specs.SetRows.{rowCount}
 use Rattle.rules.specs.Compiled.{compiled}
 use Rattle.rules.specs.Reader.{got, bad, read}
 use Rattle.rules.specs.Table.{Table}
-use Rattle.rules.specs.Answers.{refusal, Answer, refused, given}
+use Rattle.rules.specs.Answers.{refusal, refused, given}
 use Rattle.rules.specs.Compile.{Room, rowsFor, limited, drawn}
 use Rattle.rules.specs.Demands.{Gives}
 use Rattle.rules.proofs.CompileOnce.{drawn-refuses}

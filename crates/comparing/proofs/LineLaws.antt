@@ -11,7 +11,7 @@ use lib.ListN.{length, take, drop, length-drop}
 use lib.Seq.{take-all}
 use Rattle.rules.specs.Sizes.{patternMost}
 use Rattle.writing.proofs.Cases.{if-true, if-false}
-use Rattle.comparing.specs.Lines.{lineEndIn, lineOf, Lines, long, two, other, secondOf, linesOf}
+use Rattle.comparing.specs.Lines.{lineEndIn, lineOf, long, two, other, secondOf, linesOf}
 
 pub end-within : (s : List ℕ) → lineEndIn s ≤ length s
 end-within [] = omega arith

@@ -1,6 +1,6 @@
 -- `compare_second` meets its contract: the three cases of a second line.
 use borrow.Author.Needs.{needs}
-use mathlib.Core.Path.{_≡_, sym, ap, _∙_}
+use mathlib.Core.Path.{sym, ap, _∙_}
 use native.Mathlib.Omega.{arith}
 use lib.ListN.{length-take}
 use Rattle.comparing.specs.Comparison.{saidOfLines}

@@ -1,6 +1,5 @@
 -- `put_named` meets its contract: the name, then the line, which is short since its numbers are of 32 bits.
 use borrow.Author.Needs.{needs}
-use mathlib.Core.Path.{sym, ap, _∙_}
 use native.Mathlib.Omega.{arith}
 use Rattle.rules.specs.Listing.{listing}
 use Rattle.writing.proofs.Writings.{join}
