@@ -17,9 +17,14 @@ fn tables() {
     }
 }
 
+/// In two halves at once, since this takes longest.
 #[test]
 fn compiling() {
-    let tally = compare::compiling::compare(cases(), 1);
+    let [one, two] = std::thread::scope(|scope| {
+        let halves = [1, 2].map(|seed| scope.spawn(move || compare::compiling::compare(cases() / 2, seed)));
+        halves.map(|half| half.join().expect("no difference"))
+    });
+    let tally: Vec<_> = one.iter().zip(&two).map(|(m, n)| m + n).collect();
     if cases() >= CASES {
         assert!(!tally.contains(&0), "the cases reach tables and every refusal: {tally:?}");
     }
