@@ -13,11 +13,11 @@ use Rattle.rules.specs.Tree.{Tree}
 use Rattle.rules.specs.SetRows.{machine, row-at, setRows, rowCount}
 use Rattle.rules.proofs.Tests.{both-left, both-right, both}
 use Rattle.cells.specs.Taken.{Taken}
-use Rattle.sets.specs.NodeSets.{maskOf, rowWords, meets}
-use Rattle.cells.specs.Known.{Unknown, Book, TookIn}
+use Rattle.nodesets.specs.NodeSets.{maskOf, rowWords, meets}
+use Rattle.known.specs.Known.{Unknown, Book, TookIn}
 use Rattle.runs.specs.Runs.{Starts, InRun}
 use Rattle.cells.specs.Cells.{placeOf, Going, takenAt, putRun, MasksUnder, RowsUnder, AtRow, FilledTo}
-use Rattle.sets.proofs.NodeSetLaws.{meets-has}
+use Rattle.nodesets.proofs.NodeSetLaws.{meets-has}
 use Rattle.sets.proofs.Parts.{put-length, put-below, put-at}
 use Rattle.cells.proofs.InOrder.{run-same, going-fresh, going-on, going-took}
 

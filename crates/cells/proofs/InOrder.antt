@@ -16,8 +16,8 @@ use Rattle.rules.proofs.SetRowsAll.{target-at, length-targets, to-byte, first-r
 use Rattle.rules.proofs.TidyNodes.{neat}
 use Rattle.cells.specs.Taken.{Taken}
 use Rattle.cells.proofs.Taken.{rowOf, next-taken, next-told, not-inside}
-use Rattle.sets.specs.NodeSets.{maskOf}
-use Rattle.cells.specs.Known.{Unknown, TookIn}
+use Rattle.nodesets.specs.NodeSets.{maskOf}
+use Rattle.known.specs.Known.{Unknown, TookIn}
 use Rattle.cells.specs.Cells.{placeOf, Reached, Going, takenAt}
 
 module _ (X : Tree) where

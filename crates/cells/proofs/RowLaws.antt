@@ -9,9 +9,9 @@ use borrow.Author.Tests.{lt-ltb, le-ltb}
 use lib.ListN.{length, take, drop}
 use lib.Pow.{pow-mono}
 use Rattle.rules.specs.Sizes.{wordsARow}
-use Rattle.sets.specs.NodeSets.{maskOf, rowWords, doubled}
+use Rattle.nodesets.specs.NodeSets.{maskOf, rowWords, doubled}
 use Rattle.cells.specs.Cells.{takenAt, seedsOf}
-use Rattle.sets.proofs.NodeSetLaws.{length-doubled, mask-doubled, row-part, row-long, part-long}
+use Rattle.nodesets.proofs.NodeSetLaws.{length-doubled, mask-doubled, row-part, row-long, part-long}
 
 module _ (taken : ℕ → ℕ) (q : ℕ) where
   pub seeds-first : q < 2 → 1 ≡ seedsOf taken q

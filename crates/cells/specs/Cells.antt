@@ -9,10 +9,10 @@ use lib.ListN.{length, getD, take, drop, replicate}
 use Rattle.rules.specs.Tools.{has, place}
 use Rattle.rules.specs.Tree.{Tree}
 use Rattle.rules.specs.SetRows.{Machine, machine, sameRow, next, row-at, setRows, rowCount}
-use Rattle.sets.specs.NodeSets.{maskOf, rowWords}
+use Rattle.nodesets.specs.NodeSets.{maskOf, rowWords}
 use Rattle.closing.specs.Closing.{closing}
 use Rattle.cells.specs.Taken.{Leaving, Taken}
-use Rattle.cells.specs.Known.{Book}
+use Rattle.known.specs.Known.{Book}
 use Rattle.runs.specs.Runs.{InRun}
 use Rattle.cells.specs.declared.Filled.{Filled}
 use Rattle.cells.specs.declared.Filled.the-variants as filled

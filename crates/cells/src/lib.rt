@@ -3,23 +3,21 @@ ghost use mathlib.Core.Path.{_≡_};
 ghost use Prim.Native.Nat.{_+_, _*_, _^_, _≤_, _<_};
 ghost use lib.ListN.{length, getD, replicate};
 ghost use Rattle.rules.specs.Sizes.{wordsARow};
-ghost use Rattle.sets.specs.NodeSets.{maskOf, rowWords, meets};
+ghost use Rattle.nodesets.specs.NodeSets.{maskOf, rowWords, meets};
 ghost use Rattle.closing.specs.Closing.{Nodes, Wide};
-ghost use Rattle.cells.specs.Known.{Book, Took};
+ghost use Rattle.known.specs.Known.{Book, Took};
 ghost use Rattle.runs.specs.Runs.{Starts};
 ghost use Rattle.cells.specs.Cells.{takenAt, seedsOf, nodesOf, putRun, FilledAs};
-use crate::known::Got;
-use crate::known::take_in;
 use closing::close;
 use kinds::Node;
 use kinds::Row;
 use kinds::WORDS_A_ROW;
-use sets::node_set::copy;
-use sets::node_set::meet;
-use sets::node_set::nodes_after;
-use sets::node_set::put_in;
-
-pub mod known;
+use known::Got;
+use known::take_in;
+use nodesets::copy;
+use nodesets::meet;
+use nodesets::nodes_after;
+use nodesets::put_in;
 
 // How many rows there are after a row is filled; or that there is no room for another.
 pub enum Filled {

@@ -9,7 +9,7 @@ use lib.ListN.{length, drop}
 use Rattle.rules.specs.Tools.{_>>=_, guard, ifSome, range, withAll}
 use Rattle.rules.specs.Signs.{named}
 use Rattle.rules.specs.Reader.{past, pastAll, namedClass, member, item, items}
-use Rattle.sets.specs.ByteSets.{bytesOf}
+use Rattle.bytesets.specs.ByteSets.{bytesOf}
 use Rattle.classes.specs.declared.Class.{Class}
 use Rattle.classes.specs.declared.Class.the-variants.{Read, Bad}
 

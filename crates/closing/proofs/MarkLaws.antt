@@ -13,10 +13,10 @@ use Rattle.rules.specs.Nodes.{Edge}
 use Rattle.rules.proofs.Tests.{both, by-test}
 use Rattle.rules.proofs.Edges.{_∈_}
 use Rattle.entries.specs.Nodes.{nodeEdges}
-use Rattle.sets.specs.NodeSets.{maskOf, meets}
+use Rattle.nodesets.specs.NodeSets.{maskOf, meets}
 use Rattle.rules.specs.SetRows.{crosses}
 use Rattle.closing.specs.Closing.{ways, closing, Full, FullBut, markBy, Tails}
-use Rattle.sets.proofs.NodeSetLaws.{meets-has}
+use Rattle.nodesets.proofs.NodeSetLaws.{meets-has}
 use Rattle.closing.proofs.Ways.{node-all, way-of, way-low}
 
 module _ (head : Bool) (kind to1 to2 : List ℕ) (m last : ℕ) where

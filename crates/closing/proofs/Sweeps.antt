@@ -18,9 +18,9 @@ use Rattle.rules.proofs.Edges.{_∈_, All}
 use Rattle.rules.proofs.Sets.{has-bit, zero-has, with-has, with-keeps, with-only, with-ge, with-lt}
 use Rattle.rules.proofs.Closing.{Carries, closed-keeps, closed-ind, closed-lt, closed-full, closed-only}
 use Rattle.sets.specs.Sets.{member}
-use Rattle.sets.specs.NodeSets.{maskOf, TakenOut}
+use Rattle.nodesets.specs.NodeSets.{maskOf, TakenOut}
 use Rattle.closing.specs.Closing.{ways, Nodes, closing, Added, Full, FullBut, Sweep, Onward, left, Advanced}
-use Rattle.sets.proofs.NodeSetLaws.{mask-has, with-new}
+use Rattle.nodesets.proofs.NodeSetLaws.{mask-has, with-new}
 use Rattle.closing.proofs.Ways.{Leads, Bare}
 
 -- ---- nodes that wait, put in, and done with

@@ -7,7 +7,7 @@ use Prim.Native.Nat.{ℕ, suc, _+_, _*_, _-_, _≤_, _<_, _^_}
 use lib.Dec.{T}
 use lib.ListN.{length, getD}
 use Rattle.rules.specs.Tools.{has, with, find}
-use Rattle.sets.specs.NodeSets.{maskOf}
+use Rattle.nodesets.specs.NodeSets.{maskOf}
 use Rattle.rules.specs.Sizes.{nodesMost, wordsARow}
 use Rattle.rules.specs.Nodes.{Kind, Edge}
 use Rattle.rules.specs.SetRows.{crosses, closed}

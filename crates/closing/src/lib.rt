@@ -5,16 +5,16 @@ ghost use Prim.Native.Nat.{ℕ, _^_, _*_, _<_};
 ghost use lib.Dec.{T};
 ghost use lib.ListN.{length, getD};
 ghost use Rattle.rules.specs.Tools.{has};
-ghost use Rattle.sets.specs.NodeSets.{maskOf};
+ghost use Rattle.nodesets.specs.NodeSets.{maskOf};
 ghost use Rattle.rules.specs.SetRows.{crosses};
 ghost use Rattle.closing.specs.Closing.{ways, Nodes, Wide, closing, targetsOf, Added, FullBut, Onward, Advanced};
 use entries::EMPTY;
 use entries::HEAD;
 use entries::TAIL;
 use kinds::Node;
-use sets::node_set::is_in;
-use sets::node_set::put_in;
-use sets::node_set::take_out;
+use nodesets::is_in;
+use nodesets::put_in;
+use nodesets::take_out;
 
 pub mod marks;
 

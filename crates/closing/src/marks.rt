@@ -5,15 +5,15 @@ ghost use Prim.Native.Nat.{ℕ, _^_, _<_};
 ghost use lib.Dec.{T};
 ghost use lib.ListN.{length, getD};
 ghost use Rattle.rules.specs.Tools.{has};
-ghost use Rattle.sets.specs.NodeSets.{maskOf};
+ghost use Rattle.nodesets.specs.NodeSets.{maskOf};
 ghost use Rattle.rules.specs.SetRows.{crosses};
 ghost use Rattle.closing.specs.Closing.{ways, Nodes, Wide, Full, markBy, Tails};
 use crate::close;
 use entries::TAIL;
 use kinds::Node;
-use sets::node_set::is_in;
-use sets::node_set::meet;
-use sets::node_set::put_in;
+use nodesets::is_in;
+use nodesets::meet;
+use nodesets::put_in;
 
 // Puts node u in, if a tail edge leaves it.
 fn put_tail(set: &mut [u64], kind: &[u8], u: usize)

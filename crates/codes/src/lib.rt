@@ -2,19 +2,15 @@
 ghost use mathlib.Core.Path.{_≡_};
 ghost use lib.ListN.{getD};
 ghost use Rattle.kinds.specs.Refusals.{refusalOf};
-ghost use Rattle.table.specs.Answers.{wholeOf, longestOf};
-ghost use Rattle.first.specs.Answers.{firstOf};
-ghost use Rattle.starts.specs.Answers.{startsOf};
-ghost use Rattle.writing.specs.Texts.{textOf};
-ghost use Rattle.compile.specs.Outcomes.{compiledOf};
+ghost use Rattle.answers.specs.Answers.{wholeOf, longestOf, firstOf, startsOf, textOf, compiledOf};
 ghost use Rattle.codes.specs.Codes.{wholeCode, longestCode, longestEnd, firstCode, firstStart, firstEnd, startsCode, startsCount, compileCode, compileRows, compileHead, compilePlace, textCode, textLength};
-use compile::Compiled;
-use first::answers::First;
+use answers::Compiled;
+use answers::First;
+use answers::Longest;
+use answers::Starts;
+use answers::Text;
+use answers::Whole;
 use kinds::Refusal;
-use starts::answers::Starts;
-use table::answers::Longest;
-use table::answers::Whole;
-use writing::Text;
 
 // The codes that are no refusal's number.
 const TABLE: u32 = 0;

@@ -15,11 +15,11 @@ use Rattle.rules.specs.Answers.{Answer, refused, given}
 use Rattle.rules.specs.Compile.{drawn}
 use Rattle.rules.specs.Listing.{listing}
 use Rattle.writing.proofs.RowLaws.{part-slice}
-use Rattle.listing.proofs.Inputs.{too-long}
-use Rattle.listing.proofs.LineLaws.{refused-most}
-use Rattle.listing.proofs.Printed.{refusal-line-most}
+use Rattle.lines.proofs.Inputs.{too-long}
+use Rattle.lines.proofs.LineLaws.{refused-most, refusal-line-most}
+use Rattle.findings.specs.Said.{sameText, differentText, comparisonMost, saidOfAnswers}
 use Rattle.comparing.specs.Lines.{lineEndIn, lineOf, Lines, long, two, other, secondOf, linesOf}
-use Rattle.comparing.specs.Comparison.{sameText, differentText, comparisonMost, fullRoom, saidOfAnswers, saidOfPatterns, saidOfLines, comparison}
+use Rattle.comparing.specs.Comparison.{fullRoom, saidOfPatterns, saidOfLines, comparison}
 use Rattle.comparing.proofs.LineLaws.{end-within, second-long, second-more, lines-long, lines-more}
 
 -- ---- the first line end in a beginning

@@ -17,8 +17,9 @@ use Rattle.rules.proofs.Tests.{is-true, is-false, both-ways}
 use Rattle.rules.proofs.TableLaws.{same-tables}
 use Rattle.rules.proofs.CompileOnce.{drawn-refuses, drawn-same}
 use Rattle.writing.proofs.Cases.{if-true, if-false}
+use Rattle.findings.specs.Said.{sameText, differentText, expectedText, saidOfAnswers}
 use Rattle.comparing.specs.Lines.{TwoLines, JustLines, linesOf}
-use Rattle.comparing.specs.Comparison.{sameText, differentText, expectedText, fullRoom, Accepted, OfTwo, saidOfAnswers, saidOfPatterns, saidOfLines, comparison}
+use Rattle.comparing.specs.Comparison.{fullRoom, Accepted, OfTwo, saidOfPatterns, saidOfLines, comparison}
 use Rattle.comparing.specs.Comparison.{Verdict, same, different, first-refused, second-refused, both-refused, Says, long-line, two-lines, neither}
 use Rattle.comparing.proofs.LinesOnce.{long-only, two-only, Case, is-long, is-two, is-other, case}
 

@@ -19,10 +19,11 @@ use Rattle.rules.proofs.Demands.{demands, is-drawn}
 use Rattle.kinds.specs.Refusals.{refusalOf}
 use Rattle.kinds.specs.declared.Row.{Row}
 use Rattle.compile.specs.Outcomes.{Compiles}
-use Rattle.compile.specs.declared.Compiled.{Compiled}
-use Rattle.compile.specs.declared.Compiled.the-variants as answer
+use Rattle.answers.specs.declared.Compiled.{Compiled}
+use Rattle.answers.specs.declared.Compiled.the-variants as answer
+use Rattle.findings.specs.Lent.{answerIn, HoldsAnswer}
 use Rattle.comparing.specs.Comparison.{fullRoom}
-use Rattle.comparing.specs.Lent.{LentRoom, answerIn, HoldsAnswer}
+use Rattle.comparing.specs.Lent.{LentRoom}
 
 module _ {p : List ℕ} {old new : Room} where
   gives : {rows : ℕ} {head : Row} → Compiles p old new (answer.Table rows head) → Gives p old new rows (head .0)

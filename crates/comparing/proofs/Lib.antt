@@ -1,5 +1,4 @@
 pub mod ByPlace
-pub mod TableTest
 pub mod Drawn
 pub mod LineLaws
 pub mod LinesOnce

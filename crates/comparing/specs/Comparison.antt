@@ -1,39 +1,13 @@
 -- "Are these two the same?": what is said of an input of two patterns, each compiled in room for 1,024 rows.
-use mathlib.Core.Bool.{true, false}
 use mathlib.Core.List.{List, _++_}
 use Prim.Native.Nat.{ℕ}
-use Prim.Native.String.{String}
-use Rattle.rules.specs.Tools.{bytesOf}
 use Rattle.rules.specs.Sizes.{patternMost, rowsMost}
-use Rattle.rules.specs.Table.{Table, sameTable}
-use Rattle.rules.specs.Answers.{Refusal, refusal, Answer, refused, given, FirstDue}
+use Rattle.rules.specs.Answers.{Refusal, refusal, FirstDue}
 use Rattle.rules.specs.Compile.{Room, CompileRefusals, drawn}
-use Rattle.rules.specs.Listing.{lineEnd, listing, roomFor}
+use Rattle.rules.specs.Listing.{roomFor}
 use Rattle.rules.specs.Demands.{SamePatterns}
+use Rattle.findings.specs.Said.{refusedLine, sameText, differentText, expectedText, saidOfAnswers}
 use Rattle.comparing.specs.Lines.{LongLine, TwoLines, JustLines, Lines, long, two, other, linesOf}
-
--- ---- the texts
-
--- every line ends with byte 10
-abbrev pub saying : String → List ℕ
-saying words = bytesOf words ++ lineEnd
-
--- the line of a refusal, after the name of the pattern
-abbrev pub refusedLine : String → Refusal → List ℕ
-refusedLine name r = bytesOf name ++ listing (refused r)
-
-abbrev pub sameText : List ℕ
-sameText = saying "same"
-
-abbrev pub differentText : List ℕ
-differentText = saying "not the same"
-
-abbrev pub expectedText : List ℕ
-expectedText = saying "expected two patterns, one a line"
-
--- bytes that hold any of them
-abbrev pub comparisonMost : ℕ
-comparisonMost = 128
 
 -- ---- what is asked
 
@@ -68,12 +42,6 @@ pub data Says (input : List ℕ) : List ℕ → Type 0 where
   neither : (LongLine input → ⊥) → ((p q : List ℕ) → TwoLines input p q → ⊥) → Says input expectedText
 
 -- ---- computed
-
-unfoldable pub saidOfAnswers : Answer Table → Answer Table → List ℕ
-saidOfAnswers (given w) (given v) = elim (sameTable w v) [ true ↦ sameText | false ↦ differentText ]
-saidOfAnswers (given w) (refused s) = refusedLine "second " s
-saidOfAnswers (refused r) (given v) = refusedLine "first " r
-saidOfAnswers (refused r) (refused s) = refusedLine "first " r ++ refusedLine "second " s
 
 abbrev pub saidOfPatterns : List ℕ → List ℕ → List ℕ
 saidOfPatterns p q = saidOfAnswers (drawn p fullRoom) (drawn q fullRoom)

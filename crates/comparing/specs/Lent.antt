@@ -1,46 +1,12 @@
--- Two tables in lent room, and what each case of a finding says.
+-- The room that is lent to compile in.
 use mathlib.Core.Path.{_≡_}
-use mathlib.Core.List.{List, _++_}
-use Prim.Native.Nat.{ℕ, _*_, _≤_}
-use lib.ListN.{length, take}
+use mathlib.Core.List.{List}
+use Prim.Native.Nat.{ℕ, _*_}
+use lib.ListN.{length}
 use Rattle.rules.specs.Sizes.{rowsMost, wordsARow}
-use Rattle.rules.specs.Table.{Table}
-use Rattle.rules.specs.Answers.{Answer, refused, given}
-use Rattle.kinds.specs.Refusals.{refusalOf}
-use Rattle.compile.specs.declared.Compiled.{Compiled}
-use Rattle.compile.specs.declared.Compiled.the-variants as compiled
-use Rattle.comparing.specs.Comparison.{sameText, differentText, expectedText, refusedLine}
-use Rattle.comparing.specs.declared.Finding.{Finding}
-use Rattle.comparing.specs.declared.Finding.the-variants.{Same, Different, First, Second, Both, NotTwo}
 
 -- room for 1,024 rows
 pub record LentRoom (cells marks sets : List ℕ) : Type 0 where
   pub cells-many : length cells ≡ 256 * rowsMost
   pub marks-many : length marks ≡ rowsMost
   pub sets-many : length sets ≡ wordsARow * rowsMost
-
--- the table at the front of lent marks and cells, less what is past its rows
-abbrev pub frontTable : ℕ → ℕ → List ℕ → List ℕ → Table
-frontTable rows head marks cells = record { count = rows; head = head; marks = take rows marks; cells = take (256 * rows) cells }
-
--- as many marks and cells as the rows have
-pub record Holds (rows : ℕ) (marks cells : List ℕ) : Type 0 where
-  pub marks-long : rows ≤ length marks
-  pub cells-long : 256 * rows ≤ length cells
-
--- what compiling handed back, with the table that it left
-abbrev pub answerIn : Compiled → List ℕ → List ℕ → Answer Table
-answerIn (compiled.Table rows head) marks cells = given (frontTable rows (head .0) marks cells)
-answerIn (compiled.Refused r) marks cells = refused (refusalOf r)
-
-abbrev pub HoldsAnswer : Compiled → List ℕ → List ℕ → Type 0
-HoldsAnswer (compiled.Table rows head) marks cells = Holds rows marks cells
-HoldsAnswer (compiled.Refused r) marks cells = Unit {0}
-
-abbrev pub saidOfFinding : Finding → List ℕ
-saidOfFinding Same = sameText
-saidOfFinding Different = differentText
-saidOfFinding (First r) = refusedLine "first " (refusalOf r)
-saidOfFinding (Second s) = refusedLine "second " (refusalOf s)
-saidOfFinding (Both r s) = refusedLine "first " (refusalOf r) ++ refusedLine "second " (refusalOf s)
-saidOfFinding NotTwo = expectedText

@@ -1,36 +1,24 @@
-// Whether two patterns are the same: two lines of an input, each compiled in room for 1,024 rows, and their tables compared.
+// Whether two patterns are the same: two lines of an input, each compiled in room for 1,024 rows, and what is said of them.
 ghost use mathlib.Core.Path.{_≡_};
 ghost use Prim.Native.Nat.{_*_};
 ghost use lib.ListN.{length};
 ghost use Rattle.rules.specs.Sizes.{rowsMost, wordsARow};
 ghost use Rattle.rules.specs.Answers.{given};
 ghost use Rattle.writing.specs.Texts.{shown, shownIn};
+ghost use Rattle.findings.specs.Lent.{saidOfFinding};
 ghost use Rattle.comparing.specs.Lines.{lineEndIn, secondOf};
-ghost use Rattle.comparing.specs.Comparison.{saidOfAnswers, saidOfPatterns, saidOfLines, comparison};
-ghost use Rattle.comparing.specs.Lent.{LentRoom, answerIn, HoldsAnswer, saidOfFinding};
-use compile::Compiled;
+ghost use Rattle.comparing.specs.Comparison.{saidOfPatterns, saidOfLines, comparison};
+ghost use Rattle.comparing.specs.Lent.{LentRoom};
+use answers::Text;
 use compile::compile;
+use findings::Finding;
+use findings::judge;
+use findings::texts::put_finding;
 use kinds::PATTERN_MOST;
 use kinds::ROWS;
 use kinds::Refusal;
 use kinds::WORDS_A_ROW;
-use tables::same_table;
-use texts::put_finding;
-use writing::Text;
 use writing::answer;
-
-mod tables;
-mod texts;
-
-// What comes of an input; `saidOfFinding` sets out each case.
-enum Finding {
-    Same,
-    Different,
-    First(Refusal),
-    Second(Refusal),
-    Both(Refusal, Refusal),
-    NotTwo,
-}
 
 // The place of the first line end; the length where there is none.
 fn line_end(text: &[u8]) -> usize
@@ -44,37 +32,6 @@ fn line_end(text: &[u8]) -> usize
         at += 1;
     }
     at
-}
-
-// What comes of two patterns that were compiled, each in its own cells and marks.
-fn judge(
-    first: Compiled,
-    cells: &[u16],
-    marks: &[u8],
-    second: Compiled,
-    cells2: &[u16],
-    marks2: &[u8],
-) -> Finding
-    requires { ⌜ HoldsAnswer first (now marks) (now cells) ⌝ }
-    requires { ⌜ HoldsAnswer second (now marks2) (now cells2) ⌝ }
-    ensures { λ r. ⌜ saidOfFinding r ≡ saidOfAnswers (answerIn first (now (marks .entry)) (now (cells .entry))) (answerIn second (now (marks2 .entry)) (now (cells2 .entry))) ⌝ }
-{
-    match first {
-        Compiled::Refused(r) => match second {
-            Compiled::Refused(s) => Finding::Both(r, s),
-            Compiled::Table(_, _) => Finding::First(r),
-        },
-        Compiled::Table(rows, head) => match second {
-            Compiled::Refused(s) => Finding::Second(s),
-            Compiled::Table(rows2, head2) => {
-                if same_table(rows, head, cells, marks, rows2, head2, cells2, marks2) {
-                    Finding::Same
-                } else {
-                    Finding::Different
-                }
-            }
-        },
-    }
 }
 
 // Compiles both in lent room. Compiling leaves the set words 0, so one list of them serves both.

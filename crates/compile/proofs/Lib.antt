@@ -1,4 +1,3 @@
-pub mod ZeroLaws
 pub mod OutcomeLaws
 pub mod FirstNodes
 pub mod RowsFront

@@ -10,8 +10,8 @@ use Rattle.rules.specs.Compile.{Room, Outcome, over, leaves, compile}
 use Rattle.kinds.specs.Refusals.{refusalOf}
 use Rattle.rows.specs.Rows.{room}
 use Rattle.compile.specs.Outcomes.{keptRows, Compiles, Front, DrewAs, Drew}
-use Rattle.compile.specs.declared.Compiled.{Compiled}
-use Rattle.compile.specs.declared.Compiled.the-variants as compiled
+use Rattle.answers.specs.declared.Compiled.{Compiled}
+use Rattle.answers.specs.declared.Compiled.the-variants as compiled
 
 -- zeros up to the length of the old list
 over-as : {xs ys : List ℕ} (old new : List ℕ) → xs ≡ ys → length new ≡ length old → over xs new ≡ over ys old

@@ -5,9 +5,10 @@ use Prim.Native.Nat.{ℕ}
 use Rattle.rules.specs.Answers.{Answer, refused, given}
 use Rattle.rules.specs.Compile.{Room, compile}
 use Rattle.kinds.proofs.RefusalsApart.{back, back-of}
-use Rattle.compile.specs.Outcomes.{compiledOf, outcomeOf, Compiles}
-use Rattle.compile.specs.declared.Compiled.{Compiled}
-use Rattle.compile.specs.declared.Compiled.the-variants as compiled
+use Rattle.answers.specs.Answers.{compiledOf}
+use Rattle.compile.specs.Outcomes.{outcomeOf, Compiles}
+use Rattle.answers.specs.declared.Compiled.{Compiled}
+use Rattle.answers.specs.declared.Compiled.the-variants as compiled
 
 pub outcome-is : {p : List ℕ} {old new : Room} {r : Compiled} → Compiles p old new r → outcomeOf r new ≡ compile p old
 outcome-is c = λ i. record { answer = c .answer i; room = c .room i }

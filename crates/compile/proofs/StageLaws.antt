@@ -20,8 +20,8 @@ use Rattle.rows.specs.declared.Listed.the-variants as listed
 use Rattle.parting.specs.Room.{rowsOf}
 use Rattle.merge.specs.Merge.{Lent, Stands}
 use Rattle.compile.specs.Outcomes.{DrewAs, DrewNodes, SomeProgram, DrewProgram, Drew}
-use Rattle.compile.specs.declared.Compiled.{Compiled}
-use Rattle.compile.specs.declared.Compiled.the-variants.{Table as table, Refused}
+use Rattle.answers.specs.declared.Compiled.{Compiled}
+use Rattle.answers.specs.declared.Compiled.the-variants.{Table as table, Refused}
 use Rattle.compile.proofs.FirstNodes.{few-nodes}
 use Rattle.compile.proofs.RowsFront.{rows-lent, rows-fit, table-front}
 use Rattle.compile.proofs.Limits.{many-nodes, many-rows, few-rows, not-read, tree-read}

@@ -8,14 +8,11 @@ use Rattle.rules.specs.Table.{Table}
 use Rattle.rules.specs.Answers.{Answer, refused, given}
 use Rattle.rules.specs.Compile.{Room, Outcome, limited, drawn, compile}
 use Rattle.kinds.specs.Refusals.{refusalOf}
-use Rattle.nodes.specs.Fragments.{Part}
+use Rattle.spine.specs.Parts.{Part}
 use Rattle.rows.specs.Rows.{NodesOf, SameRoom}
-use Rattle.compile.specs.declared.Compiled.{Compiled}
-use Rattle.compile.specs.declared.Compiled.the-variants as compiled
-
-abbrev pub compiledOf : Compiled → Answer (ℕ × ℕ)
-compiledOf (compiled.Table rows head) = given (rows, head .0)
-compiledOf (compiled.Refused r) = refused (refusalOf r)
+use Rattle.answers.specs.declared.Compiled.{Compiled}
+use Rattle.answers.specs.declared.Compiled.the-variants as compiled
+use Rattle.answers.specs.Answers.{compiledOf}
 
 abbrev pub outcomeOf : Compiled → Room → Outcome
 outcomeOf r l = record { answer = compiledOf r; room = l }

@@ -2,6 +2,7 @@
 ghost use mathlib.Core.Path.{_≡_};
 ghost use Rattle.rows.specs.Rows.{SomeNodes, room};
 ghost use Rattle.compile.specs.Outcomes.{keptRows, SomeProgram, DrewNodes, DrewProgram, Drew, Compiles};
+use answers::Compiled;
 use kinds::NODES;
 use kinds::Refusal;
 use kinds::Row;
@@ -16,14 +17,6 @@ use rows::list_rows;
 use zeros::clear_cells;
 use zeros::clear_marks;
 use zeros::clear_sets;
-
-mod zeros;
-
-// The rows and the head row of the table that now stands in the cells and marks; or a refusal.
-pub enum Compiled {
-    Table(u16, Row),
-    Refused(Refusal),
-}
 
 // From nodes: their set rows are listed at the front of the lent room, and merged there; refusal 11 where they do not fit.
 fn draw_nodes(

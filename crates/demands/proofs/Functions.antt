@@ -10,12 +10,12 @@ use Rattle.rules.specs.Matchers.{PastEnd, FewPlaces, MatchRefusals, Part, partO
 use Rattle.rules.specs.Demands.{Refuses, RefusesBy, AllZero, lent, MatchersRight, Gives}
 use Rattle.rules.proofs.Demands.{demands}
 use Rattle.kinds.specs.declared.Row.{Row}
-use Rattle.first.specs.Answers.{HandsBack}
-use Rattle.starts.specs.Answers.{startsOf, listedOf}
-use Rattle.starts.specs.declared.answers.Starts.{Starts}
-use Rattle.compile.specs.Outcomes.{compiledOf, Compiles}
-use Rattle.compile.specs.declared.Compiled.{Compiled}
-use Rattle.compile.specs.declared.Compiled.the-variants as compiled
+use Rattle.first.specs.Parts.{HandsBack}
+use Rattle.answers.specs.Answers.{startsOf, listedOf, compiledOf}
+use Rattle.answers.specs.declared.Starts.{Starts}
+use Rattle.compile.specs.Outcomes.{Compiles}
+use Rattle.answers.specs.declared.Compiled.{Compiled}
+use Rattle.answers.specs.declared.Compiled.the-variants as compiled
 use Rattle.demands.specs.Functions.{MatchersKept, FunctionsKeep}
 
 -- ---- 1

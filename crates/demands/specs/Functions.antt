@@ -17,16 +17,15 @@ use Rattle.rules.specs.Compile.{Room, CompileRefusals}
 use Rattle.rules.specs.Matchers.{PastEnd, fewPlaces, FewPlaces, MatchRefusals, partOf, listedIn, wholeAnswer, longestAnswer, firstAnswer, partAnswer, startsAnswer}
 use Rattle.rules.specs.Demands.{Refuses, RefusesBy, AllZero, PatternMatches, lent, drawing, Demand2, Demand3, SamePatterns}
 use Rattle.kinds.specs.declared.Row.{Row}
-use Rattle.table.specs.Answers.{wholeOf, longestOf}
-use Rattle.table.specs.declared.answers.Whole.{Whole}
-use Rattle.table.specs.declared.answers.Longest.{Longest}
-use Rattle.first.specs.Answers.{firstOf, HandsBack}
-use Rattle.first.specs.declared.answers.First.{First}
-use Rattle.starts.specs.Answers.{startsOf, listedOf}
-use Rattle.starts.specs.declared.answers.Starts.{Starts}
-use Rattle.compile.specs.Outcomes.{compiledOf, Compiles}
-use Rattle.compile.specs.declared.Compiled.{Compiled}
-use Rattle.compile.specs.declared.Compiled.the-variants as compiled
+use Rattle.answers.specs.Answers.{wholeOf, longestOf, firstOf, startsOf, listedOf, compiledOf}
+use Rattle.answers.specs.declared.Whole.{Whole}
+use Rattle.answers.specs.declared.Longest.{Longest}
+use Rattle.first.specs.Parts.{HandsBack}
+use Rattle.answers.specs.declared.First.{First}
+use Rattle.answers.specs.declared.Starts.{Starts}
+use Rattle.compile.specs.Outcomes.{Compiles}
+use Rattle.answers.specs.declared.Compiled.{Compiled}
+use Rattle.answers.specs.declared.Compiled.the-variants as compiled
 
 -- 1: each refusal exactly when its condition holds and none ahead of it does; a refused compile leaves all lent room 0, a refused
 -- match the list of starts as it was, and the part form the empty part at place 0

@@ -14,8 +14,9 @@ use Rattle.rules.proofs.LentTable.{longer-formed}
 use Rattle.rules.proofs.CompileOnce.{drawn-formed}
 use Rattle.writing.specs.Texts.{ifFormed}
 use Rattle.writing.proofs.Cases.{if-true}
+use Rattle.lines.proofs.LineLaws.{refusal-line-most}
 use Rattle.listing.specs.Programs.{outcomeText}
-use Rattle.listing.proofs.Printed.{refusal-line-most, rows-most, room-rows}
+use Rattle.listing.proofs.Printed.{rows-most, room-rows}
 use Rattle.dot.specs.Dot.{dot, dotOf}
 use Rattle.dot.proofs.Lengths.{dot-most}
 use Rattle.draw.specs.Graphs.{graphOf, graphMost}

@@ -6,11 +6,11 @@ ghost use Rattle.rules.specs.Answers.{given};
 ghost use Rattle.io.specs.Counts.{Counts};
 ghost use Rattle.writing.specs.Texts.{shown, shownIn};
 ghost use Rattle.draw.specs.Graphs.{graphOf, graphMost};
-use compile::Compiled;
+use answers::Compiled;
+use answers::Text;
 use kinds::PATTERN_MOST;
 use kinds::WORDS_A_ROW;
 use streams::Input;
-use writing::Text;
 
 // Rows for which there is room.
 const ROWS: usize = 64;
@@ -22,11 +22,11 @@ fn graph(input: &[u8], out: &mut [u8]) -> Text
     let mut cells = [0u16; 256 * ROWS];
     let mut marks = [0u8; ROWS];
     let mut sets = [0u64; WORDS_A_ROW * ROWS];
-    let pattern = listing::pattern_of(input);
+    let pattern = lines::pattern_of(input);
     let made = compile::compile(pattern, &mut cells, &mut marks, &mut sets);
     match made {
         Compiled::Table(rows, head) => dot::write_dot(rows, head, &cells, &marks, out),
-        Compiled::Refused(refusal) => listing::write_refusal(refusal, out),
+        Compiled::Refused(refusal) => lines::write_refusal(refusal, out),
     }
 }
 

@@ -11,7 +11,7 @@ use denote.Ref.{RefT}
 use Rattle.rules.specs.Tools.{upFrom, kept, last, orElse}
 use Rattle.rules.specs.Table.{Table, takes, longest, starts, first}
 use Rattle.rules.specs.Matchers.{Part}
-use Rattle.first.specs.Answers.{HandsBack}
+use Rattle.first.specs.Parts.{HandsBack}
 use Rattle.ahead.proofs.PlaceLaws.{last-cons}
 
 last-within : (f : ℕ → Bool) (c a e : ℕ) → last (kept f (upFrom a c)) ≡ some e → (a ≤ e) × (e < a + c)

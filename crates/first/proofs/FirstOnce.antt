@@ -8,9 +8,10 @@ use Rattle.rules.specs.Table.{Table}
 use Rattle.rules.specs.Answers.{Answer, refused, given}
 use Rattle.rules.specs.Matchers.{Part, firstAnswer}
 use Rattle.kinds.proofs.RefusalsApart.{back, back-of}
-use Rattle.first.specs.Answers.{firstOf, HandsBack}
-use Rattle.first.specs.declared.answers.First.{First}
-use Rattle.first.specs.declared.answers.First.the-variants.{Refused, Match, Nothing}
+use Rattle.answers.specs.Answers.{firstOf}
+use Rattle.first.specs.Parts.{HandsBack}
+use Rattle.answers.specs.declared.First.{First}
+use Rattle.answers.specs.declared.First.the-variants.{Refused, Match, Nothing}
 
 -- the answer that says it
 abbrev first-back : Answer (Option (ℕ × ℕ)) → First

@@ -1,7 +1,3 @@
-pub mod FirstLaws
-pub mod ListLaws
-pub mod KeptLaws
-pub mod RunLaws
 pub mod TriesLaws
 pub mod AnswerLaws
 pub mod FirstOnce

@@ -1,26 +1,40 @@
 -- Trying each start, and the last match from one.
-use mathlib.Core.Path.{_≡_, ap, sym, _∙_}
-use mathlib.Core.Bool.{Bool, true, false}
+use mathlib.Core.Path.{_≡_, refl, ap, sym, _∙_}
+use mathlib.Core.Bool.{Bool, true, false, true≢false}
 use mathlib.Core.List.{List}
-use mathlib.Core.Option.{none, some}
+use mathlib.Core.Option.{Option, none, some}
 use Prim.Native.Nat.{ℕ, _+_, _*_, _≤_, _<_}
 use native.Mathlib.Omega.{arith}
-use lib.ListN.{length, getD}
-use Rattle.rules.specs.Table.{Table, cell, begins, fits, WellFormed}
+use lib.ListN.{length, getD, drop}
+use Rattle.rules.specs.Tools.{ifSome}
+use Rattle.rules.specs.Table.{Table, cell, begins, fits, first, WellFormed}
 use Rattle.rules.proofs.TableLaws.{read-none}
-use Rattle.first.specs.declared.run.Found.{Found}
-use Rattle.first.specs.declared.run.Found.the-variants as found
-use Rattle.ahead.specs.Ahead.{mark, isStart, Stuck}
-use Rattle.first.specs.Run.{foundOf, orMatch, firstFrom}
-use Rattle.first.proofs.FirstLaws.{first-at}
-use Rattle.first.proofs.ListLaws.{match-later, match-here, match-none, match-some, match-stuck, match-end}
+use Rattle.passing.specs.declared.Found.{Found}
+use Rattle.passing.specs.declared.Found.the-variants as found
+use Rattle.ahead.specs.Ahead.{mark, ahead, isStart, lastEnd, Stuck}
+use Rattle.ahead.proofs.PlaceLaws.{isSome, some-ahead, starts-all}
+use Rattle.passing.specs.Run.{foundOf, orMatch, firstFrom}
+use Rattle.passing.proofs.FirstLaws.{firstIn, first-at}
+use Rattle.passing.proofs.ListLaws.{match-later, match-here, match-none, match-stuck, match-end}
 
 module _ (w : Table) (t : List ℕ) where
+  pub first-all : first w t ≡ firstFrom w t 0
+  unfolding first firstFrom
+  first-all = ap (firstIn w t) (starts-all w t)
+
+  -- a match lies ahead
+  match-some : (p q s : ℕ) (c d : Option (ℕ × ℕ)) → ahead w q (drop p t) ≡ true → orMatch w t p q s c ≡ orMatch w t p q s d
+  match-some p q s c d h = go (lastEnd w q p (drop p t)) (some-ahead w t (drop p t) q p ∙ h)
+    where
+      go : (x : Option ℕ) → isSome x ≡ true → ifSome x (λ e. some (s, e)) c ≡ ifSome x (λ e. some (s, e)) d
+      go none e = absurd (true≢false (sym e))
+      go (some x) e = refl
+
   pub first-skip : {s : ℕ} → s ≤ length t → isStart w t s ≡ false → firstFrom w t s ≡ firstFrom w t (s + 1)
   first-skip {s} h e = first-at w t s h ∙ match-none w t s (begins w s) s (firstFrom w t (s + 1)) e
 
   pub first-here : {s : ℕ} → s ≤ length t → isStart w t s ≡ true → firstFrom w t s ≡ orMatch w t s (begins w s) s none
-  first-here {s} h e = first-at w t s h ∙ match-some w t s (begins w s) s (firstFrom w t (s + 1)) none e
+  first-here {s} h e = first-at w t s h ∙ match-some s (begins w s) s (firstFrom w t (s + 1)) none e
 
 -- the text from s has been read up to p, in row q, and best is the last match before p
 pub record Ending (w : Table) (t : List ℕ) (s q : ℕ) (best : Found) (p : ℕ) : Type 0 where

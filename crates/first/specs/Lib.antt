@@ -1,3 +1,2 @@
-pub mod Run
 pub mod Tries
-pub mod Answers
+pub mod Parts

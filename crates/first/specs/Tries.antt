@@ -7,7 +7,7 @@ use lib.ListN.{length}
 use Rattle.rules.specs.Table.{Table, first}
 use Rattle.first.specs.declared.tries.Tried.{Tried}
 use Rattle.ahead.specs.Ahead.{isStart}
-use Rattle.first.specs.Run.{firstFrom}
+use Rattle.passing.specs.Run.{firstFrom}
 
 pub record Tries (w : Table) (t : List ℕ) (r : Tried) : Type 0 where
   pub past : first w t ≡ firstFrom w t (r .at)

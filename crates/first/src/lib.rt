@@ -8,21 +8,20 @@ ghost use Rattle.rules.specs.Table.{wellFormed};
 ghost use Rattle.rules.specs.Table as rule;
 ghost use Rattle.rules.specs.Matchers.{firstAnswer, partAnswer};
 ghost use Rattle.table.specs.Lent.{tableOf};
-ghost use Rattle.first.specs.Answers.{firstOf, HandsBack};
-ghost use Rattle.first.specs.Run.{foundOf};
+ghost use Rattle.answers.specs.Answers.{firstOf};
+ghost use Rattle.passing.specs.Run.{foundOf};
+ghost use Rattle.first.specs.Parts.{HandsBack};
 use ahead::Rows;
 use ahead::dead_row;
 use answers::First;
 use kinds::Refusal;
 use kinds::Row;
 use kinds::TEXT_MOST;
-use run::Found;
-use run::read_on;
+use passing::Found;
+use passing::read_on;
 use tries::last_match;
 use tries::try_each;
 
-pub mod answers;
-mod run;
 mod tries;
 
 // First, of a well-formed table: by trying each start, or where that gets dear, with the list of rows from there on.

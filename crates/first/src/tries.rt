@@ -5,13 +5,13 @@ ghost use Prim.Native.Nat.{_≤_};
 ghost use lib.ListN.{length};
 ghost use Rattle.rules.specs.Table.{begins};
 ghost use Rattle.ahead.specs.Ahead.{lent, Ready};
-ghost use Rattle.first.specs.Run.{foundOf, orMatch};
+ghost use Rattle.passing.specs.Run.{foundOf, orMatch};
 ghost use Rattle.first.specs.Tries.{Tries};
-use crate::run::Found;
 use ahead::Rows;
 use ahead::begin;
 use ahead::flags_at_end;
 use ahead::look;
+use passing::Found;
 
 // No start lies below `at`, and `found` says that `at` is one.
 pub struct Tried {

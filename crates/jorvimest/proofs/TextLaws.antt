@@ -2,8 +2,9 @@
 use mathlib.Core.Path.{_≡_, ap, _∙_}
 use mathlib.Core.List.{List}
 use Prim.Native.Nat.{ℕ}
-use Rattle.writing.specs.Texts.{textOf, Shown, shown}
-use Rattle.writing.specs.declared.Text.{Text}
+use Rattle.answers.specs.Answers.{textOf}
+use Rattle.writing.specs.Texts.{Shown, shown}
+use Rattle.answers.specs.declared.Text.{Text}
 use Rattle.codes.specs.Codes.{textCode, textLength}
 
 pub text-numbers : (r : Text) (old : ℕ) {new : List ℕ} {s : Shown} {code length : ℕ} → shown r new ≡ s → code ≡ textCode (textOf r) → length ≡ textLength old (textOf r)

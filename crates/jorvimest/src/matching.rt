@@ -27,7 +27,7 @@ pub extern "C" fn jorvimest_whole(
 ) -> u32
     ensures { λ r. ⌜ r ≡ wholeCode (wholeAnswer (tableOf rows head (now (marks .entry)) (now (cells .entry))) (now (text .entry))) ⌝ }
 {
-    whole_code(table::whole(rows, Row(head), cells, marks, text))
+    whole_code(ends::whole(rows, Row(head), cells, marks, text))
 }
 
 // The end of a match is put into the lent number.
@@ -44,7 +44,7 @@ pub extern "C" fn jorvimest_longest(
     ensures code { λ r. ⌜ r ≡ longestCode (longestAnswer (tableOf rows head (now (marks .entry)) (now (cells .entry))) (now (text .entry)) start) ⌝ }
     ensures end { λ r. ⌜ now (end .exit) ≡ longestEnd (now (end .entry)) (longestAnswer (tableOf rows head (now (marks .entry)) (now (cells .entry))) (now (text .entry)) start) ⌝ }
 {
-    let answer = table::longest(rows, Row(head), cells, marks, text, start);
+    let answer = ends::longest(rows, Row(head), cells, marks, text, start);
     put_longest(answer, end)
 }
 

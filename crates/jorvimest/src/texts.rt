@@ -39,6 +39,6 @@ pub extern "C" fn jorvimest_refusal(
     ensures length { λ r. ⌜ now (length .exit) ≡ textLength (now (length .entry)) (shownIn (now (out .entry)) (given (rule.listing (refused (refusal number place)))) .answer) ⌝ }
     ensures out { λ r. ⌜ now (out .exit) ≡ shownIn (now (out .entry)) (given (rule.listing (refused (refusal number place)))) .buffer ⌝ }
 {
-    let answer = listing::write_refused(number, place, out);
+    let answer = lines::write_refused(number, place, out);
     put_text(answer, length)
 }

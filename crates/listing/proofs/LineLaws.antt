@@ -1,11 +1,11 @@
--- A row's line from the part that is lent on, and how long the listing and the line of a refusal get.
+-- A row's line from the part that is lent on, and how long the listing gets.
 use mathlib.Core.Path.{_≡_, sym, ap}
 use mathlib.Core.Logic.{⊎-elim}
-use Prim.Native.Nat.{ℕ, _+_, _*_, _^_, _≤_, _<_}
+use Prim.Native.Nat.{ℕ, _+_, _*_, _≤_, _<_}
 use native.Mathlib.Omega.{arith}
 use lib.ListN.{length, getD, length-append}
 use Rattle.rules.specs.Table.{Table, WellFormed}
-use Rattle.rules.specs.Answers.{refused, given, refusal}
+use Rattle.rules.specs.Answers.{given}
 use Rattle.rules.specs.Listing.{decimal, Run, runText, rowLine, listing}
 use Rattle.writing.proofs.Numbers.{decimal-short}
 use Rattle.writing.proofs.RowLaws.{part, part-slice}
@@ -14,11 +14,6 @@ use Rattle.listing.specs.Lines.{lineOf}
 
 pub part-line : (w : Table) (q : ℕ) → rowLine w q ≡ lineOf q (getD (w .marks) q 0) (part q (w .cells))
 part-line w q = ap (lineOf q (getD (w .marks) q 0)) (sym (part-slice (256 * q) (256 * q + 256) (w .cells)))
-
--- the line of a refusal, each number of at most ten digits
-pub refused-most : (number place : ℕ) → number < 2 ^ 32 → place < 2 ^ 32 → length (listing (refused (refusal number place))) ≤ 33
-unfolding listing
-refused-most number place a b = simp length-append (omega (arith, decimal-short 9 number (omega arith), decimal-short 9 place (omega arith)))
 
 run-most : (r : Run) → r .lo < 256 → r .hi < 256 → r .to < 1024 → length (runText r) ≤ 13
 run-most r a b c = simp length-append (omega (arith, decimal-short 2 (r .lo) (omega arith), decimal-short 2 (r .hi) (omega arith), decimal-short 3 (r .to) (omega arith)))

@@ -1,26 +1,23 @@
 -- What the listing program prints is the listing of what compiling leaves in the room, and how long it gets.
 use mathlib.Core.Path.{_≡_, refl, ap, ap₂, _∙_}
-use mathlib.Core.Logic.{inl, inr}
 use mathlib.Core.List.{List, _++_, map}
 use Prim.Native.Nat.{ℕ, zero, suc, _+_, _*_, _≤_, _<_}
-use native.Mathlib.Decide.{decLt}
 use native.Mathlib.Omega.{arith}
-use lib.ListN.{length, drop, length-append}
+use lib.ListN.{length, drop}
 use lib.Seq.{take-append-le}
 use Rattle.rules.specs.Tools.{bytesOf, upFrom, flat}
-use Rattle.rules.specs.Sizes.{patternMost, listingRows}
-use Rattle.rules.specs.Turned.{Turned, Fault, two, twoBrace, three, four, five, six, seven, eight, nine}
+use Rattle.rules.specs.Sizes.{listingRows}
 use Rattle.rules.specs.Table.{Table, WellFormed}
-use Rattle.rules.specs.Answers.{Refusal, refusal, Answer, refused, given, FirstDue}
-use Rattle.rules.specs.Compile.{Room, rowsFor, leaves, drawn, compile, CompileRefusals}
+use Rattle.rules.specs.Answers.{Answer, refused, given}
+use Rattle.rules.specs.Compile.{Room, rowsFor, leaves, drawn, compile}
 use Rattle.rules.specs.Listing.{lineEnd, decimal, rowLine, listing, withoutLineEnd, roomFor, printed}
 use Rattle.rules.proofs.TableLaws.{well-formed-test}
 use Rattle.rules.proofs.LentTable.{longer, marks-alike, longer-formed}
 use Rattle.rules.proofs.CompiledTable.{rows-few}
-use Rattle.rules.proofs.CompileOnce.{drawn-refuses, drawn-formed, when-given}
+use Rattle.rules.proofs.CompileOnce.{drawn-formed, when-given}
 use Rattle.writing.proofs.Cases.{if-true}
-use Rattle.writing.proofs.Numbers.{decimal-short}
 use Rattle.writing.specs.Texts.{ifFormed}
+use Rattle.lines.proofs.LineLaws.{refusal-line-most}
 use Rattle.listing.specs.Lines.{lineOf, listingOf}
 use Rattle.listing.specs.Programs.{outcomeText, printedMost}
 use Rattle.listing.proofs.LineLaws.{listing-most}
@@ -61,45 +58,7 @@ outcome-printed input = go (drawn p l) refl
 
 -- ---- how long it gets
 
-record Small (r : Refusal) : Type 0 where
-  number : r .number < 100
-  place : r .place < 10000
-
-fault-number : {p s : List ℕ} {n : ℕ} → Fault p n s → n < 100
-fault-number (two a b c) = omega arith
-fault-number (twoBrace a b c) = omega arith
-fault-number (three a b) = omega arith
-fault-number (four a b) = omega arith
-fault-number (five a b) = omega arith
-fault-number (six a b) = omega arith
-fault-number (seven a b) = omega arith
-fault-number (eight a b) = omega arith
-fault-number (nine a b) = omega arith
-
-small : (p : List ℕ) (l : Room) (r : Refusal) → drawn p l ≡ refused r → Small r
-small p l r e = go (drawn-refuses p l r .0 e)
-  where
-    of : {n i : ℕ} → n < 100 → i < 10000 → r ≡ refusal n i → Small r
-    of {n} {i} a b q = record { number = rw q a; place = rw q b }
-
-    go : FirstDue (CompileRefusals p l) r → Small r
-    go (inl x) = of (omega arith) (omega arith) (x .1)
-    go (inr (short, inl x)) = of (fault-number (x .2 .fault)) (place-small (decLt patternMost (length p)) (x .2)) (x .3)
-      where
-        place-small : {n i : ℕ} → Dec (patternMost < length p) → Turned p n i → i < 10000
-        place-small (yes long) t = absurd (short (refusal 1 patternMost) (long, refl))
-        place-small (no n) t = omega (arith, t .place)
-    go (inr (a, inr (b, inl x))) = of (omega arith) (omega arith) (x .3)
-    go (inr (a, inr (b, inr (c, inl x)))) = of (omega arith) (omega arith) (x .3)
-    go (inr (a, inr (b, inr (c, inr (d, x))))) = absurd x
-
 module _ (p : List ℕ) (l : Room) where
-  pub refusal-line-most : (r : Refusal) → drawn p l ≡ refused r → length (listing (refused r)) ≤ 19
-  unfolding listing
-  refusal-line-most r e =
-      let h : Small r = small p l r e in
-      simp length-append (omega (arith, decimal-short 1 (r .number) (h .number), decimal-short 3 (r .place) (h .place)))
-
   pub rows-most : (w : Table) → drawn p l ≡ given w → w .count ≤ rowsFor l
   rows-most w e = let c = when-given p l w e in omega (arith, c .few, ap (λ (v : Table). v .count) (c .is), rows-few (c .tree))
 

@@ -1,41 +1,24 @@
-// The listing of a table and the line of a refusal, written into a lent buffer; and a pattern as it comes from an input.
+// The listing of a table, written into a lent buffer.
 ghost use mathlib.Core.Path.{_≡_};
 ghost use mathlib.Core.List.{map};
 ghost use Prim.Native.Nat.{_*_, _≤_};
 ghost use lib.ListN.{length};
 ghost use Rattle.rules.specs.Tools.{upFrom, flat};
-ghost use Rattle.rules.specs.Answers.{refusal, refused, given};
+ghost use Rattle.rules.specs.Answers.{given};
 ghost use Rattle.rules.specs.Listing.{runText, runs, rowLine, listing};
-ghost use Rattle.kinds.specs.Refusals.{refusalOf};
 ghost use Rattle.table.specs.Lent.{tableOf};
 ghost use Rattle.writing.specs.Writing.{Room, Writes};
 ghost use Rattle.writing.specs.Runs.{runOf};
 ghost use Rattle.writing.specs.Texts.{shown, shownIn};
 ghost use Rattle.listing.specs.Lines.{lineOf, listingOf};
-ghost use Rattle.listing.specs.Inputs.{PatternPart};
+use answers::Text;
 use kinds::Refusal;
 use kinds::Row;
-use writing::Text;
 use writing::answer;
 use writing::put;
 use writing::put_all;
 use writing::put_number;
 use writing::run_end;
-
-// The input less one final byte 10, as a part of the input itself.
-pub fn pattern_of(input: &[u8]) -> &[u8]
-    ensures { λ r. ⌜ PatternPart (input .entry) r ⌝ }
-{
-    let n = input.len();
-    if n == 0 {
-        return input;
-    }
-    let last = n - 1;
-    if input[last] == b'\n' {
-        return &input[..last];
-    }
-    input
-}
 
 // One run, with a space ahead of it.
 fn put_run(out: &mut [u8], at: usize, lo: u8, hi: u8, to: Row) -> usize
@@ -109,18 +92,6 @@ fn put_table(out: &mut [u8], rows: u16, head: Row, cells: &[u16], marks: &[u8]) 
     put_rows(out, here, rows, cells, marks)
 }
 
-// The line of a refusal, of its number and its place.
-pub fn put_refused(out: &mut [u8], at: usize, number: u32, place: u32) -> usize
-    requires { ⌜ Room at (listing (refused (refusal number place))) ⌝ }
-    ensures { λ r. ⌜ Writes (now (out .entry)) at (listing (refused (refusal number place))) (now (out .exit)) r ⌝ }
-{
-    let here = put_all(out, at, b"refused ");
-    let here = put_number(out, here, number);
-    let here = put_all(out, here, b" at ");
-    let here = put_number(out, here, place);
-    put(out, here, b'\n')
-}
-
 // The listing of anything that is lent.
 pub fn write_table(rows: u16, head: Row, cells: &[u16], marks: &[u8], out: &mut [u8]) -> Text
     ensures { λ r. ⌜ shown r (now (out .exit)) ≡ shownIn (now (out .entry)) (listingOf (tableOf rows (head .0) (now (marks .entry)) (now (cells .entry)))) ⌝ }
@@ -130,19 +101,4 @@ pub fn write_table(rows: u16, head: Row, cells: &[u16], marks: &[u8], out: &mut 
     }
     let n = put_table(out, rows, head, cells, marks);
     answer(n, out.len())
-}
-
-// The line of a refusal with any number and any place.
-pub fn write_refused(number: u32, place: u32, out: &mut [u8]) -> Text
-    ensures { λ r. ⌜ shown r (now (out .exit)) ≡ shownIn (now (out .entry)) (given (listing (refused (refusal number place)))) ⌝ }
-{
-    let n = put_refused(out, 0, number, place);
-    answer(n, out.len())
-}
-
-// The line of a refusal.
-pub fn write_refusal(refusal: Refusal, out: &mut [u8]) -> Text
-    ensures { λ r. ⌜ shown r (now (out .exit)) ≡ shownIn (now (out .entry)) (given (listing (refused (refusalOf refusal)))) ⌝ }
-{
-    write_refused(kinds::number(refusal), kinds::place(refusal), out)
 }

@@ -8,10 +8,11 @@ use Rattle.rules.specs.Tools.{copies}
 use Rattle.rules.specs.Sizes.{nodesMost}
 use Rattle.rules.specs.Nodes.{empty, Frag, size, one, around, joined, allJoined, frag}
 use Rattle.kinds.specs.declared.Node.{Node}
+use Rattle.spine.specs.Parts.{Part}
 use Rattle.nodes.specs.declared.fragment.Copies.{Copies}
 use Rattle.entries.specs.declared.Step.the-variants.{To}
 use Rattle.entries.specs.Entries.{Lists, Room, Links}
-use Rattle.nodes.specs.Fragments.{Fits, Part, Builds, copiesOf, copyOf, Fewer}
+use Rattle.nodes.specs.Fragments.{Fits, Builds, copiesOf, copyOf, Fewer}
 use Rattle.nodes.proofs.BuiltLaws.{Rest, rest-more, rest-built}
 
 pub fewer-plain : (c : Copies) → 0 < c .plain → Fewer c (record { plain = c .plain - 1; extra = c .extra })

@@ -1,6 +1,5 @@
 pub mod DrawnLaws
 pub mod BuiltLaws
 pub mod CopyLaws
-pub mod PartLaws
-pub mod SpineLaws
+pub mod TurnLaws
 pub mod TreeLaws

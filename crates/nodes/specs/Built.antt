@@ -8,9 +8,9 @@ use Rattle.rules.specs.Tree.{Tree}
 use Rattle.rules.specs.Nodes.{nodeCount}
 use Rattle.rules.specs.SetRows.{machine}
 use Rattle.program.specs.Program.{atomBytes, AtomAt}
+use Rattle.spine.specs.Parts.{Part}
 use Rattle.entries.specs.Nodes.{HoldNodes}
 use Rattle.entries.specs.Entries.{Lists, Room}
-use Rattle.nodes.specs.Fragments.{Part}
 use Rattle.nodes.specs.declared.Built.{Built}
 use Rattle.nodes.specs.declared.Built.the-variants.{Nodes, TooMany}
 

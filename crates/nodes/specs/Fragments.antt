@@ -6,9 +6,9 @@ use Prim.Native.Nat.{ℕ, zero, suc, _+_, _≤_, _<_}
 use lib.ListN.{length}
 use Rattle.rules.specs.Tools.{copies}
 use Rattle.rules.specs.Sizes.{nodesMost}
-use Rattle.rules.specs.Tree.{Tree}
 use Rattle.rules.specs.Nodes.{Edge, Frag, size, around, frag}
-use Rattle.program.specs.Program.{programMost, Program}
+use Rattle.program.specs.Program.{programMost}
+use Rattle.spine.specs.Parts.{Part}
 use Rattle.entries.specs.Entries.{Lists, Room, entryAt, edgesOf, Sound}
 use Rattle.nodes.specs.declared.fragment.Copies.{Copies}
 use Rattle.entries.specs.declared.Step.{Step}
@@ -41,13 +41,11 @@ abbrev pub BuiltAs : List ℕ → Frag → ℕ → Lists → Lists → Step → 
 BuiltAs p F b old new (To e) = Fits p F b old new (e .0)
 BuiltAs p F b old new TooMany = nodesMost < b + size F
 
--- the part of the program p that ends at e is a tree's
-pub record Part (p : List ℕ) (e : ℕ) : Type 0 where
-  pub tree : Tree
-  pub start : ℕ
-  pub is : Program p tree start e
+-- Where X stands from a to x and Y after it up to y, f X Y from b on is what is then written.
+abbrev pub Binds : (Frag → Frag → Frag) → ℕ → ℕ → ℕ → ℕ → Lists → Lists → Step → Type 0
+Binds f b a x y l new r = (p : List ℕ) (X Y : Frag) (old m : Lists) → Fits p X a old m x → Fits p Y (x + 1) m l y → BuiltAs p (f X Y) b old new r
 
--- it can be built from b on
+-- the part of the program p that ends at e can be built from b on
 pub record Ready (p : List ℕ) (e b : ℕ) (l : Lists) : Type 0 where
   pub part : Part p e
   pub within : e ≤ length p

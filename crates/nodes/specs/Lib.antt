@@ -1,3 +1,2 @@
 pub mod Fragments
-pub mod Spine
 pub mod Built

@@ -10,11 +10,9 @@ ghost use Rattle.rules.specs.Sizes.{nodesMost};
 ghost use Rattle.rules.specs.Nodes.{forked, around, allJoined, repeatedly};
 ghost use Rattle.signs.specs.Answers.{repeatOf};
 ghost use Rattle.program.specs.Program.{operationAt};
+ghost use Rattle.spine.specs.Spine.{joint};
 ghost use Rattle.entries.specs.Entries.{lists, Room, entry, pick};
-ghost use Rattle.nodes.specs.Fragments.{Ready, Builds, copiesOf, copyOf, Fewer};
-ghost use Rattle.nodes.specs.Spine.{joint, Binds};
-use crate::spine::descend;
-use crate::spine::start_of;
+ghost use Rattle.nodes.specs.Fragments.{Binds, Ready, Builds, copiesOf, copyOf, Fewer};
 use entries::BYTES;
 use entries::EMPTY;
 use entries::Entry;
@@ -30,6 +28,8 @@ use kinds::Node;
 use program::Op;
 use program::operation;
 use signs::count::Repeat;
+use spine::descend;
+use spine::start_of;
 
 // A node with empty edges to a and to b.
 fn empties(a: Node, b: Node) -> Entry

@@ -4,7 +4,6 @@ ghost use Rattle.nodes.specs.Fragments.{Ready};
 ghost use Rattle.nodes.specs.Built.{BuildsTree};
 
 mod fragment;
-mod spine;
 
 use entries::Entry;
 use entries::Step;

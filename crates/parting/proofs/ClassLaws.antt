@@ -14,7 +14,7 @@ use Rattle.rules.specs.Compiled.{round, classes}
 use Rattle.rules.proofs.Lists.{getD-map-in, length-map, length-upFrom, at-upFrom}
 use Rattle.rules.proofs.Classes.{total, Classes, sig, class-of-sig, alike, same-sig, round-only, round-classes, round-more, total-all, first-classes, first-only, fixed-named, classes-only}
 use Rattle.sets.specs.Sets.{member}
-use Rattle.round.specs.Columns.{Columns}
+use Rattle.columns.specs.Columns.{Columns}
 use Rattle.round.specs.Rounds.{Rows, Names, ByMarks, goesTo, Alike, Given, Round, Quiet}
 use Rattle.round.proofs.MarkLaws.{names-marks}
 use Rattle.round.proofs.RoundLaws.{unchanged, changed, names-next}

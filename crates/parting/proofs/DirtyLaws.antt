@@ -12,7 +12,7 @@ use Rattle.rules.specs.Sizes.{rowsMost}
 use Rattle.rules.proofs.Tests.{is-false}
 use Rattle.sets.specs.Sets.{member, putIn, AllIn}
 use Rattle.sets.proofs.SetLaws.{put-long, put-in, put-still}
-use Rattle.round.specs.Columns.{Columns}
+use Rattle.columns.specs.Columns.{Columns}
 use Rattle.round.specs.Rounds.{Rows, Names, goesTo, Round, Clean, Quiet}
 use Rattle.round.proofs.RoundLaws.{cell-in, same-least}
 use Rattle.parting.specs.Dirty.{rowWords, AfterRound, Leads, Grown, RowListed, Stayed, Noted}

@@ -3,9 +3,8 @@ ghost use mathlib.Core.Path.{_≡_};
 ghost use lib.ListN.{length};
 ghost use Rattle.rules.specs.Grid.{Grid};
 ghost use Rattle.rules.specs.Compiled.{classes};
-ghost use Rattle.round.specs.Columns.{Columns};
+ghost use Rattle.columns.specs.Columns.{Columns};
 ghost use Rattle.parting.specs.Room.{rowsOf, Room};
-use round::columns;
 use round::marks;
 use round::rounds;
 

@@ -9,7 +9,7 @@ use lib.Seq.{getD-set-same, getD-set-other, take-set-le}
 use types.Run.{OneOf, miss}
 use denote.Enum.Declared.{tagOf}
 use Rattle.rules.specs.Tools.{find}
-use Rattle.sets.specs.ByteSets.{joined}
+use Rattle.bytesets.specs.ByteSets.{joined}
 use Rattle.program.specs.Program.{kinds, operationOf, operationAt, atomWords, fourWords, bytesOf, atomBytes, AtomAt, Puts, PutsClass}
 use Rattle.signs.specs.declared.count.Repeat.the-variants.{Times, AtLeast}
 use Rattle.program.specs.declared.Op.{Op}

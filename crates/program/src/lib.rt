@@ -3,10 +3,10 @@ ghost use mathlib.Core.Path.{_≡_};
 ghost use Prim.Native.Nat.{_+_, _≤_, _<_};
 ghost use lib.ListN.{length};
 ghost use Rattle.rules.specs.Signs.{dotBytes};
-ghost use Rattle.sets.specs.ByteSets.{bytesOf};
+ghost use Rattle.bytesets.specs.ByteSets.{bytesOf};
 ghost use Rattle.program.specs.Program.{operationOf, atomBytes, AtomAt, Puts, PutsClass};
+use bytesets::ByteSet;
 use kinds::PATTERN_MOST;
-use sets::byte_set::ByteSet;
 use signs::count::Repeat;
 
 // The longest program: at most two words for each byte of a pattern, and one.

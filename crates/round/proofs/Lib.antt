@@ -1,4 +1,3 @@
 pub mod ListLaws
-pub mod ColumnLaws
 pub mod MarkLaws
 pub mod RoundLaws

@@ -8,7 +8,7 @@ use native.Mathlib.Omega.{arith}
 use lib.ListN.{length, getD, set, replicate, length-set, length-replicate, getD-replicate}
 use lib.Seq.{getD-set-same, getD-set-other}
 use Rattle.rules.specs.Sizes.{rowsMost}
-use Rattle.round.specs.Columns.{Columns}
+use Rattle.columns.specs.Columns.{Columns}
 use Rattle.round.specs.Rounds.{Rows, Names, goesTo, GoAlike, Alike, Least, Among, Fresh, Parted, Found, old, late, new, Round, Clean, Quiet, Firsts, Follows}
 use Rattle.round.proofs.ListLaws.{set-next}
 

@@ -7,7 +7,7 @@ use Prim.Native.Nat.{ℕ, _+_, _*_, _≤_, _<_}
 use lib.ListN.{length, getD}
 use Rattle.rules.specs.Sizes.{rowsMost}
 use Rattle.sets.specs.Sets.{member}
-use Rattle.round.specs.Columns.{Columns}
+use Rattle.columns.specs.Columns.{Columns}
 
 -- ---- rows and their classes
 

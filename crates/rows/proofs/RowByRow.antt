@@ -15,15 +15,15 @@ use Rattle.rules.specs.Tree.{Tree}
 use Rattle.rules.specs.SetRows.{crosses, SetRow, machine, row-at, setRows, rowCount, markOf}
 use Rattle.rules.specs.Compile.{Room, rowsFor}
 use Rattle.rules.proofs.SetRowsAll.{first-rows}
-use Rattle.sets.specs.NodeSets.{maskOf}
+use Rattle.nodesets.specs.NodeSets.{maskOf}
 use Rattle.closing.specs.Closing.{ways, Full, markBy}
-use Rattle.cells.specs.Known.{buckets, Book}
+use Rattle.known.specs.Known.{buckets, Book}
 use Rattle.rows.specs.Rows.{room as lent, RowsIn}
 use Rattle.cells.specs.Cells.{placeOf, takenAt, seedsOf, nodesOf, AtRow, FilledTo}
 use Rattle.rows.specs.Listing.{Given, TreeOf, RoomFor, ListedTo}
 use Rattle.sets.proofs.Parts.{put-below, put-at}
 use Rattle.closing.proofs.Sweeps.{closing-full, closing-lt}
-use Rattle.sets.proofs.NodeSetLaws.{next-lt}
+use Rattle.nodesets.proofs.NodeSetLaws.{next-lt}
 use Rattle.cells.proofs.RowLaws.{seeds-lt}
 use Rattle.cells.proofs.InOrder.{going-next, going-end}
 use Rattle.rows.proofs.SameClosing.{row-same, mark-same}

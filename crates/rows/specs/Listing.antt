@@ -9,7 +9,7 @@ use Rattle.rules.specs.SetRows.{machine, row-at, setRows, rowCount, markOf}
 use Rattle.rules.specs.Compile.{Room}
 use Rattle.entries.specs.Nodes.{HoldNodes}
 use Rattle.closing.specs.Closing.{Nodes}
-use Rattle.cells.specs.Known.{Book}
+use Rattle.known.specs.Known.{Book}
 use Rattle.runs.specs.Runs.{Starts}
 use Rattle.cells.specs.Cells.{placeOf, Masked, MasksUnder, RowsUnder, Going, takenAt}
 use Rattle.rows.specs.Rows.{ListedOf}

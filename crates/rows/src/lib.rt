@@ -9,13 +9,13 @@ ghost use Rattle.closing.specs.Closing.{Tails};
 ghost use Rattle.rows.specs.Listing.{Given, RoomFor, ListedTo, RowListed, AllListed};
 use cells::Filled;
 use cells::fill;
-use cells::known::BUCKETS;
 use cells::take_up;
 use closing::marks::mark_of;
 use closing::marks::put_tails;
 use kinds::Node;
 use kinds::ROWS;
 use kinds::WORDS_A_ROW;
+use known::BUCKETS;
 use runs::make_runs;
 
 // The number of set rows; or refusal 11.

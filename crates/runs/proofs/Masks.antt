@@ -18,9 +18,9 @@ use Rattle.rules.proofs.Sets.{zero-has, with-has, with-keeps, with-only}
 use Rattle.sets.specs.Sets.{member}
 use Rattle.sets.proofs.SetLaws.{none-in}
 use Rattle.program.specs.Program.{atomBytes}
-use Rattle.sets.specs.NodeSets.{maskOf, rowWords}
+use Rattle.nodesets.specs.NodeSets.{maskOf, rowWords}
 use Rattle.runs.specs.Runs.{Starts, InRun, Crosses, Runs, PartedTo, Whole, maskAt, NodePut, MaskedTo}
-use Rattle.sets.proofs.NodeSetLaws.{mask-has, part-size}
+use Rattle.nodesets.proofs.NodeSetLaws.{mask-has, part-size}
 use Rattle.sets.proofs.Parts.{put-length, put-part, put-ahead, put-after}
 use Rattle.runs.proofs.Parting.{alike}
 

@@ -16,9 +16,9 @@ use Rattle.rules.specs.Tools.{has}
 use Rattle.rules.proofs.Sets.{bit, bit-suc, not-bit}
 use Rattle.sets.specs.Sets.{member}
 use Rattle.rules.proofs.Sets.{has-or}
-use Rattle.sets.specs.ByteSets.{joined}
+use Rattle.bytesets.specs.ByteSets.{joined}
 use Rattle.program.specs.Program.{atomBytes}
-use Rattle.sets.proofs.ByteSetLaws.{has-low, has-high, left-test, right-test}
+use Rattle.bytesets.proofs.ByteSetLaws.{has-low, has-high, left-test, right-test}
 use Rattle.runs.specs.Runs.{Starts, InRun, Changes, Parts, PartedBy, PartedTo, Whole}
 
 -- ---- the bits of a word that differ from the bit below

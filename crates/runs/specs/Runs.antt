@@ -10,7 +10,7 @@ use Rattle.rules.specs.Tools.{has, with}
 use Rattle.rules.specs.Sizes.{nodesMost, wordsARow}
 use Rattle.sets.specs.Sets.{member}
 use Rattle.program.specs.Program.{atomBytes, AtomAt}
-use Rattle.sets.specs.NodeSets.{maskOf, rowWords}
+use Rattle.nodesets.specs.NodeSets.{maskOf, rowWords}
 
 -- each node with an edge on bytes names an atom of the program
 pub record Atoms (program kind atom : List ℕ) : Type 0 where

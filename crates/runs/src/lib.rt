@@ -3,15 +3,15 @@ ghost use mathlib.Core.Path.{_≡_};
 ghost use Prim.Native.Nat.{_*_, _<_};
 ghost use lib.ListN.{length, getD, replicate};
 ghost use Rattle.rules.specs.Sizes.{nodesMost, wordsARow};
-ghost use Rattle.sets.specs.ByteSets.{bytesOf};
+ghost use Rattle.bytesets.specs.ByteSets.{bytesOf};
 ghost use Rattle.runs.specs.Runs.{Atoms, Starts, Runs, Changes, PartedBy, PartedTo, Whole, NodePut, MaskedTo};
+use bytesets::ByteSet;
 use entries::BYTES;
 use kinds::Node;
 use kinds::WORDS_A_ROW;
+use nodesets::put_in;
 use program::atom_set;
 use sets::TOP_BIT;
-use sets::byte_set::ByteSet;
-use sets::node_set::put_in;
 
 // The bits of a word that differ from the bit below; `below` is the bit below the lowest.
 fn changes(word: u64, below: u64) -> u64

@@ -3,10 +3,11 @@ ghost use mathlib.Core.Path.{_≡_};
 ghost use Prim.Native.Nat.{_≤_};
 ghost use lib.ListN.{length, take};
 ghost use Rattle.io.specs.Counts.{Counts};
-ghost use Rattle.comparing.specs.Comparison.{comparison, comparisonMost};
+ghost use Rattle.findings.specs.Said.{comparisonMost};
+ghost use Rattle.comparing.specs.Comparison.{comparison};
+use answers::Text;
 use kinds::PATTERN_MOST;
 use streams::Input;
-use writing::Text;
 
 // Bytes that hold what is said.
 const ROOM: usize = 128;

@@ -1,4 +1,2 @@
 pub mod SetLaws
-pub mod ByteSetLaws
 pub mod Parts
-pub mod NodeSetLaws

@@ -1,11 +1,8 @@
-// Sets of numbers, and of nodes, in lent words of 64 bits: x is in if bit x % 64 of word x / 64 is 1. Sets of bytes by value.
+// Sets of numbers in lent words of 64 bits: x is in if bit x % 64 of word x / 64 is 1.
 ghost use mathlib.Core.Path.{_≡_};
 ghost use Prim.Native.Nat.{_+_, _*_, _≤_, _<_};
 ghost use lib.ListN.{length, replicate};
 ghost use Rattle.sets.specs.Sets.{member, putIn, AllIn};
-
-pub mod byte_set;
-pub mod node_set;
 
 // The highest bit of a word.
 pub const TOP_BIT: u64 = 9223372036854775808;

@@ -6,9 +6,9 @@ use Rattle.rules.specs.Table.{Table}
 use Rattle.rules.specs.Answers.{Answer, refused, given}
 use Rattle.rules.specs.Matchers.{Listed, startsAnswer}
 use Rattle.kinds.proofs.RefusalsApart.{back, back-of}
-use Rattle.starts.specs.Answers.{startsOf, listedOf}
-use Rattle.starts.specs.declared.answers.Starts.{Starts}
-use Rattle.starts.specs.declared.answers.Starts.the-variants.{Refused, Count}
+use Rattle.answers.specs.Answers.{startsOf, listedOf}
+use Rattle.answers.specs.declared.Starts.{Starts}
+use Rattle.answers.specs.declared.Starts.the-variants.{Refused, Count}
 
 -- the answer that says it
 abbrev starts-back : Answer ℕ → Starts

@@ -2,7 +2,7 @@
 ghost use mathlib.Core.Path.{_≡_};
 ghost use Rattle.rules.specs.Matchers.{startsAnswer};
 ghost use Rattle.table.specs.Lent.{tableOf};
-ghost use Rattle.starts.specs.Answers.{listedOf};
+ghost use Rattle.answers.specs.Answers.{listedOf};
 use ahead::Rows;
 use ahead::dead_row;
 use answers::Starts;
@@ -12,7 +12,6 @@ use kinds::Refusal;
 use kinds::Row;
 use kinds::TEXT_MOST;
 
-pub mod answers;
 mod back;
 
 // All starts, of anything that is lent. Where the list has a place for every start that could be, they are not counted first.

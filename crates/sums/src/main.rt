@@ -6,15 +6,15 @@ ghost use Prim.Native.Nat.{_≤_};
 ghost use lib.ListN.{length};
 ghost use Rattle.io.specs.Counts.{Counts};
 ghost use Rattle.sums.specs.Lent.{Lent};
-use compile::Compiled;
-use first::answers::First;
+use answers::Compiled;
+use answers::First;
+use answers::Starts;
+use answers::Text;
 use kinds::Refusal;
 use kinds::Row;
 use kinds::WORDS_A_ROW;
 use libc::STDIN_FILENO;
 use libc::STDOUT_FILENO;
-use starts::answers::Starts;
-use writing::Text;
 
 // Rows for which there is room.
 const ROWS: usize = 1024;

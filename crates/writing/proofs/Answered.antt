@@ -14,10 +14,11 @@ use Rattle.rules.specs.Table.{Table, wellFormed}
 use Rattle.kinds.specs.Refusals.{refusalOf}
 use Rattle.kinds.specs.declared.Refusal.{Refusal}
 use Rattle.kinds.specs.declared.Refusal.the-variants.{NotFormed}
-use Rattle.writing.specs.declared.Text.{Text}
-use Rattle.writing.specs.declared.Text.the-variants.{Refused, Written, Longer}
+use Rattle.answers.specs.declared.Text.{Text}
+use Rattle.answers.specs.declared.Text.the-variants.{Refused, Written, Longer}
 use Rattle.writing.specs.Writing.{Writes}
-use Rattle.writing.specs.Texts.{textOf, Shown, shown, shownIn, ifFormed}
+use Rattle.answers.specs.Answers.{textOf}
+use Rattle.writing.specs.Texts.{Shown, shown, shownIn, ifFormed}
 use Rattle.writing.proofs.Cases.{if-true, if-false}
 use Rattle.writing.proofs.Writings.{from-start}
 

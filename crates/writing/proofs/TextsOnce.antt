@@ -10,9 +10,10 @@ use Rattle.rules.specs.Answers.{Refusal, refusal, Answer, refused, given}
 use Rattle.rules.specs.Matchers.{NotFormed}
 use Rattle.rules.proofs.TableLaws.{well-formed-test}
 use Rattle.kinds.proofs.RefusalsApart.{back, back-of}
-use Rattle.writing.specs.declared.Text.{Text}
-use Rattle.writing.specs.declared.Text.the-variants.{Refused, Written, Longer}
-use Rattle.writing.specs.Texts.{textOf, Shown, shown, ifFormed}
+use Rattle.answers.specs.declared.Text.{Text}
+use Rattle.answers.specs.declared.Text.the-variants.{Refused, Written, Longer}
+use Rattle.answers.specs.Answers.{textOf}
+use Rattle.writing.specs.Texts.{Shown, shown, ifFormed}
 
 -- the answer that says it
 abbrev text-back : Answer (Bool × ℕ) → Text

@@ -6,15 +6,8 @@ use lib.Dec.{leb}
 use lib.ListN.{length, take, drop}
 use Rattle.rules.specs.Answers.{Answer, refused, given, refusal}
 use Rattle.rules.specs.Table.{Table, wellFormed}
-use Rattle.kinds.specs.Refusals.{refusalOf}
-use Rattle.writing.specs.declared.Text.{Text}
-use Rattle.writing.specs.declared.Text.the-variants.{Refused, Written, Longer}
-
--- a refusal, or whether the whole text stands in the buffer, and the text's length
-abbrev pub textOf : Text → Answer (Bool × ℕ)
-textOf (Refused r) = refused (refusalOf r)
-textOf (Written n) = given (true, n)
-textOf (Longer n) = given (false, n)
+use Rattle.answers.specs.declared.Text.{Text}
+use Rattle.answers.specs.Answers.{textOf}
 
 pub record Shown : Type 0 where
   pub answer : Answer (Bool × ℕ)

@@ -8,18 +8,8 @@ ghost use Rattle.rules.specs.Answers.{given};
 ghost use Rattle.rules.specs.Listing.{decimal};
 ghost use Rattle.writing.specs.Writing.{Room, Writes};
 ghost use Rattle.writing.specs.Runs.{RunEnds};
-ghost use Rattle.writing.specs.Texts.{textOf};
-use kinds::Refusal;
-
-// What a writer hands back; `textOf` sets out each case.
-pub enum Text {
-    // The buffer is as it was.
-    Refused(Refusal),
-    // The whole text stands in the buffer; its length.
-    Written(u32),
-    // The buffer is full of the text's beginning; the text's length.
-    Longer(u32),
-}
+ghost use Rattle.answers.specs.Answers.{textOf};
+use answers::Text;
 
 // One byte.
 pub fn put(out: &mut [u8], at: usize, b: u8) -> usize

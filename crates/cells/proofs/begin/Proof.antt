@@ -3,9 +3,9 @@ use Prim.Native.Nat.{ℕ}
 use native.Mathlib.Omega.{arith}
 use lib.ListN.{length, length-replicate}
 use Rattle.rules.specs.Tools.{with}
-use Rattle.sets.specs.NodeSets.{maskOf}
+use Rattle.nodesets.specs.NodeSets.{maskOf}
 use Rattle.cells.specs.Cells.{takenAt}
-use Rattle.sets.proofs.NodeSetLaws.{mask-none}
+use Rattle.nodesets.proofs.NodeSetLaws.{mask-none}
 use Rattle.cells.proofs.RowLaws.{seeds-first, begin-later}
 use borrow.Author.Needs.{needs}
 use Rattle.cells.proofs.begin.Statement.{statement}

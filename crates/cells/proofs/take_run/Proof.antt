@@ -2,8 +2,8 @@ use borrow.Author.Needs.{needs}
 use mathlib.Core.Path.{_≡_, ap, _∙_}
 use native.Mathlib.Omega.{arith}
 use lib.ListN.{length}
-use Rattle.sets.specs.NodeSets.{meets, rowWords}
-use Rattle.sets.proofs.NodeSetLaws.{length-meets, row-part, row-long, part-long}
+use Rattle.nodesets.specs.NodeSets.{meets, rowWords}
+use Rattle.nodesets.proofs.NodeSetLaws.{length-meets, row-part, row-long, part-long}
 use Rattle.cells.proofs.take_run.Statement.{statement}
 use Rattle.cells.proofs.take_run.Tie as tie
 

@@ -9,7 +9,7 @@ use lib.Dec.{T, eqb}
 use lib.ListN.{length}
 use lib.Pow.{pow-mono}
 use Rattle.rules.specs.Tools.{has}
-use Rattle.sets.specs.NodeSets.{maskOf}
+use Rattle.nodesets.specs.NodeSets.{maskOf}
 use Rattle.closing.specs.Closing.{closing}
 use Rattle.cells.specs.Cells.{takenAt, nodesOf}
 use Rattle.cells.proofs.RowLaws.{seeds-lt}

@@ -5,7 +5,7 @@ use mathlib.Core.Option.{Option}
 use Prim.Native.Nat.{ℕ}
 use native.Mathlib.Omega.{arith}
 use Rattle.signs.specs.Answers.{byteOf}
-use Rattle.sets.specs.ByteSets.{bytesOf}
+use Rattle.bytesets.specs.ByteSets.{bytesOf}
 use Rattle.classes.specs.Classes.{addedTo}
 use Rattle.signs.proofs.Places.{read-some, read-none, onward}
 use Rattle.classes.proofs.ClassLaws.{item-member, item-name}

@@ -5,7 +5,7 @@ use mathlib.Core.Option.{Option}
 use Prim.Native.Nat.{ℕ, _-_, _≤_}
 use native.Mathlib.Omega.{arith}
 use lib.ListN.{length}
-use Rattle.sets.specs.ByteSets.{bytesOf}
+use Rattle.bytesets.specs.ByteSets.{bytesOf}
 use Rattle.classes.specs.Classes.{classOf}
 use Rattle.signs.proofs.Places.{read-some, read-none, stands, not-there}
 use Rattle.classes.proofs.ClassLaws.{ItemsFrom, items-bad, items-end, items-more, items-whole}

@@ -7,7 +7,7 @@ use native.Mathlib.Omega.{arith}
 use lib.ListN.{drop}
 use Rattle.rules.specs.Signs.{named}
 use Rattle.rules.specs.Reader.{namedClass}
-use Rattle.sets.specs.ByteSets.{bytesOf}
+use Rattle.bytesets.specs.ByteSets.{bytesOf}
 use Rattle.classes.proofs.ClassLaws.{added-twice, name-this, name-later, no-name, spelled, not-spelled, name-read}
 use borrow.Author.Needs.{needs}
 use Rattle.classes.proofs.read_name.Statement.{statement}

@@ -6,7 +6,7 @@ use native.Mathlib.Omega.{arith}
 use borrow.Author.Tests.{le-leb, lt-leb}
 use Rattle.rules.specs.Tools.{withAll}
 use Rattle.signs.specs.Answers.{byteOf}
-use Rattle.sets.specs.ByteSets.{bytesOf}
+use Rattle.bytesets.specs.ByteSets.{bytesOf}
 use Rattle.signs.proofs.Places.{read-some, read-none, stands, not-there}
 use Rattle.classes.proofs.ClassLaws.{one-byte}
 use borrow.Author.Needs.{needs}

@@ -5,7 +5,7 @@ use native.Mathlib.Omega.{arith}
 use lib.Dec.{T}
 use lib.ListN.{length}
 use Rattle.rules.specs.Tools.{has}
-use Rattle.sets.specs.NodeSets.{maskOf}
+use Rattle.nodesets.specs.NodeSets.{maskOf}
 use Rattle.rules.specs.SetRows.{crosses}
 use Rattle.closing.specs.Closing.{ways, closing, Full, Sweep, left}
 use Rattle.closing.proofs.Sweeps.{closing-full, sweep-start, sweep-end}

@@ -4,7 +4,7 @@ use Prim.Native.Nat.{_-_, _^_, _<_}
 use native.Mathlib.Omega.{arith}
 use lib.ListN.{length}
 use Rattle.rules.proofs.Tests.{is-true, is-false}
-use Rattle.sets.specs.NodeSets.{maskOf}
+use Rattle.nodesets.specs.NodeSets.{maskOf}
 use Rattle.rules.specs.SetRows.{crosses}
 use Rattle.closing.specs.Closing.{ways, Onward}
 use Rattle.closing.proofs.Ways.{leads-two, leads-nowhere}

@@ -5,10 +5,10 @@ use mathlib.Core.List.{List}
 use Prim.Native.Nat.{ℕ, _+_, _-_}
 use native.Mathlib.Omega.{arith}
 use lib.ListN.{length, take, drop, length-take}
+use Rattle.findings.specs.Lent.{saidOfFinding}
+use Rattle.findings.specs.declared.Finding.{Finding}
 use Rattle.comparing.specs.Lines.{lineEndIn, lineOf, secondOf}
 use Rattle.comparing.specs.Comparison.{saidOfLines, comparison}
-use Rattle.comparing.specs.Lent.{saidOfFinding}
-use Rattle.comparing.specs.declared.Finding.{Finding}
 use Rattle.comparing.proofs.LineLaws.{end-within, after-end, lines-long, lines-more, lines-one}
 use Rattle.comparing.proofs.compare.Statement.{statement}
 use Rattle.comparing.proofs.compare.Tie as tie

@@ -4,7 +4,7 @@ use mathlib.Core.Path.{ap₂, _∙_}
 use mathlib.Core.List.{List}
 use Prim.Native.Nat.{ℕ}
 use native.Mathlib.Omega.{arith}
-use Rattle.comparing.specs.Comparison.{saidOfAnswers}
+use Rattle.findings.specs.Said.{saidOfAnswers}
 use Rattle.comparing.proofs.Drawn.{drawn-in, holds-answer, drawn-all}
 use Rattle.comparing.proofs.compare_within.Statement.{statement}
 use Rattle.comparing.proofs.compare_within.Tie as tie

@@ -9,7 +9,7 @@ use Rattle.rules.specs.Listing.{withoutLineEnd, roomFor}
 use Rattle.writing.specs.Texts.{Shown, shownIn}
 use Rattle.listing.specs.Programs.{outcomeText}
 use Rattle.compile.specs.Outcomes.{outcomeOf, Compiles}
-use Rattle.compile.specs.declared.Compiled.{Compiled}
+use Rattle.answers.specs.declared.Compiled.{Compiled}
 use Rattle.compile.proofs.OutcomesOnce.{outcome-is}
 use Rattle.dot.specs.Dot.{dotOf}
 use Rattle.draw.specs.Graphs.{graphOf}

@@ -6,8 +6,8 @@ use Rattle.rules.specs.Table.{Table}
 use Rattle.rules.proofs.TableLaws.{well-formed-test}
 use Rattle.table.specs.Lent.{tableOf}
 use Rattle.ahead.specs.Ahead.{Ready}
-use Rattle.first.specs.Run.{firstFrom}
-use Rattle.first.proofs.FirstLaws.{first-none}
+use Rattle.passing.specs.Run.{firstFrom}
+use Rattle.passing.proofs.FirstLaws.{first-none}
 use Rattle.first.proofs.TriesLaws.{first-here}
 use Rattle.first.proofs.find.Statement.{statement}
 use Rattle.first.proofs.find.Tie as tie

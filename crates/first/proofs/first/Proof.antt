@@ -6,7 +6,7 @@ use Rattle.rules.specs.Answers.{given}
 use Rattle.rules.specs.Matchers.{firstAnswer}
 use Rattle.rules.proofs.TableLaws.{checked-13, checked-12, checked-past}
 use Rattle.table.specs.Lent.{tableOf}
-use Rattle.first.specs.Run.{foundOf}
+use Rattle.passing.specs.Run.{foundOf}
 use borrow.Author.Needs.{needs}
 use Rattle.first.proofs.first.Statement.{statement}
 use Rattle.first.proofs.first.Tie as tie

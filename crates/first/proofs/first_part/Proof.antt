@@ -10,7 +10,7 @@ use Rattle.rules.specs.Answers.{given}
 use Rattle.rules.specs.Matchers.{firstAnswer, partAnswer, partOf}
 use Rattle.rules.proofs.TableLaws.{checked-13, checked-12, checked-past}
 use Rattle.table.specs.Lent.{tableOf}
-use Rattle.first.specs.Run.{foundOf}
+use Rattle.passing.specs.Run.{foundOf}
 use Rattle.first.proofs.AnswerLaws.{first-within, cut, hands-back}
 use borrow.Author.Needs.{needs}
 use Rattle.first.proofs.first_part.Statement.{statement}

@@ -11,7 +11,7 @@ use Rattle.writing.specs.Texts.{Shown, shownIn}
 use Rattle.listing.specs.Lines.{listingOf}
 use Rattle.listing.specs.Programs.{outcomeText}
 use Rattle.compile.specs.Outcomes.{outcomeOf, Compiles}
-use Rattle.compile.specs.declared.Compiled.{Compiled}
+use Rattle.answers.specs.declared.Compiled.{Compiled}
 use Rattle.compile.proofs.OutcomesOnce.{outcome-is}
 use Rattle.listing.proofs.Printed.{outcome-printed}
 use Rattle.list.proofs.printed.Statement.{statement}

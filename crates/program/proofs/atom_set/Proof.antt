@@ -4,7 +4,7 @@ use Prim.Native.Nat.{ℕ, _<_}
 use native.Mathlib.Omega.{arith}
 use Rattle.rules.specs.Tools.{range, withAll}
 use Rattle.program.specs.Program.{operationAt, atomWords}
-use Rattle.sets.proofs.ByteSetLaws.{one-byte}
+use Rattle.bytesets.proofs.ByteSetLaws.{one-byte}
 use Rattle.program.proofs.ProgramLaws.{bytes-at, class-room, four-here, no-atom}
 use borrow.Author.Needs.{needs}
 use Rattle.program.proofs.atom_set.Statement.{statement}

@@ -4,8 +4,8 @@ use mathlib.Core.Logic.{⊎-elim}
 use Prim.Native.Nat.{_-_, _≤_, _<_}
 use native.Mathlib.Omega.{arith}
 use Rattle.rules.specs.Sizes.{wordsARow}
-use Rattle.sets.specs.ByteSets.{bytesOf}
-use Rattle.sets.proofs.NodeSetLaws.{part-long}
+use Rattle.bytesets.specs.ByteSets.{bytesOf}
+use Rattle.nodesets.proofs.NodeSetLaws.{part-long}
 use Rattle.runs.proofs.Masks.{Putting, putting-none, putting-in, putting-out}
 use Rattle.runs.proofs.put_node.Statement.{statement}
 use Rattle.runs.proofs.put_node.Tie as tie

@@ -13,8 +13,8 @@ use Rattle.rules.specs.Table.{Table, wellFormed, starts}
 use Rattle.rules.proofs.TableLaws.{well-formed-test, checked-13, checked-12, checked-past}
 use Rattle.table.specs.Lent.{tableOf}
 use Rattle.kinds.specs.declared.Refusal.the-variants.{FewPlaces}
-use Rattle.starts.specs.declared.answers.Starts.the-variants.{Refused, Count}
-use Rattle.starts.specs.Answers.{listedOf}
+use Rattle.answers.specs.declared.Starts.the-variants.{Refused, Count}
+use Rattle.answers.specs.Answers.{listedOf}
 use Rattle.ahead.specs.Ahead.{Ready}
 use Rattle.starts.proofs.StartsLaws.{starts-most}
 use borrow.Author.Needs.{needs}

@@ -4,8 +4,8 @@ use lib.Dec.{T}
 use lib.ListN.{length}
 use Rattle.rules.specs.Tools.{has}
 use Rattle.rules.proofs.Tests.{is-true, is-false, both-left}
-use Rattle.sets.specs.NodeSets.{maskOf}
-use Rattle.sets.proofs.NodeSetLaws.{meets-has, length-meets, meets-lt}
+use Rattle.nodesets.specs.NodeSets.{maskOf}
+use Rattle.nodesets.proofs.NodeSetLaws.{meets-has, length-meets, meets-lt}
 use Rattle.closing.proofs.Sweeps.{has-lt}
 use Rattle.closing.proofs.MarkLaws.{mark-3, mark-2, mark-0, full-but-tails}
 use borrow.Author.Needs.{needs}

@@ -1,6 +1,6 @@
 use mathlib.Core.Path.{refl}
 use Rattle.rules.proofs.Sets.{with-has, with-keeps}
-use Rattle.sets.specs.NodeSets.{maskOf}
+use Rattle.nodesets.specs.NodeSets.{maskOf}
 use borrow.Author.Needs.{needs}
 use Rattle.closing.proofs.marks.put_tail.Statement.{statement}
 use Rattle.closing.proofs.marks.put_tail.Tie as tie

@@ -5,7 +5,7 @@ use native.Mathlib.Omega.{arith}
 use lib.Dec.{T}
 use lib.ListN.{length, getD}
 use Rattle.rules.specs.Tools.{has}
-use Rattle.sets.specs.NodeSets.{maskOf}
+use Rattle.nodesets.specs.NodeSets.{maskOf}
 use Rattle.closing.proofs.MarkLaws.{tails-more}
 use Rattle.closing.proofs.marks.put_tails.Statement.{statement}
 use Rattle.closing.proofs.marks.put_tails.Tie as tie

@@ -8,7 +8,7 @@ use lib.ListN.{length}
 use Rattle.rules.specs.Table.{WellFormed, begins}
 use Rattle.table.specs.Lent.{tableOf}
 use Rattle.ahead.specs.Ahead.{lent}
-use Rattle.first.specs.Run.{foundOf}
+use Rattle.passing.specs.Run.{foundOf}
 use Rattle.first.proofs.TriesLaws.{Ending, ending-none, ending-more, ending-dead, ending-end}
 use Rattle.first.proofs.tries.last_match.Statement.{statement}
 use Rattle.first.proofs.tries.last_match.Tie as tie

@@ -7,10 +7,9 @@ use lib.ListN.{length, drop}
 use Rattle.rules.specs.Table.{first}
 use Rattle.rules.proofs.TableLaws.{read-none}
 use Rattle.ahead.specs.Ahead.{lent, ahead, isStart}
-use Rattle.first.specs.Run.{firstFrom}
+use Rattle.passing.specs.Run.{firstFrom}
 use Rattle.ahead.proofs.AheadLaws.{flags-end}
-use Rattle.first.proofs.FirstLaws.{first-all}
-use Rattle.first.proofs.TriesLaws.{first-skip}
+use Rattle.first.proofs.TriesLaws.{first-all, first-skip}
 use Rattle.first.proofs.tries.try_each.Statement.{statement}
 use Rattle.first.proofs.tries.try_each.Tie as tie
 

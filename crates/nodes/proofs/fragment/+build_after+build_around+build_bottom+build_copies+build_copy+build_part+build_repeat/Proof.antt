@@ -9,12 +9,14 @@ use native.Mathlib.Omega.{arith}
 use lib.ListN.{length, getD}
 use Rattle.rules.specs.Nodes.{frag}
 use Rattle.program.specs.Program.{programMost}
+use Rattle.spine.specs.Parts.{Part}
+use Rattle.spine.proofs.PartLaws.{nonempty, shaped, leaf-shaped}
+use Rattle.spine.proofs.SpineLaws.{Reached, reached}
 use Rattle.entries.specs.Entries.{Lists, lists}
-use Rattle.nodes.proofs.PartLaws.{nonempty, again, shaped, leaf-shaped}
 use Rattle.nodes.proofs.BuiltLaws.{empty-built, head-built, tail-built, bytes-built, around-built, rest-all}
 use Rattle.nodes.proofs.CopyLaws.{Copying, no-copies, plain-copy, extra-copy, copying-more, copying-last, copying-over, copying-full}
-use Rattle.nodes.specs.Fragments.{Fits, Part}
-use Rattle.nodes.proofs.SpineLaws.{Reached, reached, Stands, stands-bottom, turn-back, turn-within, turn-right, turn-last, turn-over, turn-full, turn-up, stands-all}
+use Rattle.nodes.specs.Fragments.{Fits}
+use Rattle.nodes.proofs.TurnLaws.{again, Stands, stands-bottom, turn-back, turn-within, turn-right, turn-last, turn-over, turn-full, turn-up, stands-all}
 use borrow.Fn.Kinds.{In}
 use borrow.Fn.PlainCycle.{Measures, is, falls, and}
 use Rattle.nodes.proofs.fragment.build_after.Reads as build-after
@@ -46,8 +48,8 @@ use Rattle.nodes.proofs.fragment.Copies.rest.Reads as rest-reads
 use Rattle.nodes.proofs.fragment.combine.Reads as combine-reads
 use Rattle.nodes.proofs.fragment.empties.Reads as empties-reads
 use Rattle.nodes.proofs.fragment.picked.Reads as picked-reads
-use Rattle.nodes.proofs.spine.descend.Reads as descend-reads
-use Rattle.nodes.proofs.spine.start_of.Reads as start-of-reads
+use Rattle.spine.proofs.descend.Reads as descend-reads
+use Rattle.spine.proofs.start_of.Reads as start-of-reads
 use Rattle.program.proofs.operation.Reads as operation-reads
 use Rattle.nodes.proofs.fragment.+build_after+build_around+build_bottom+build_copies+build_copy+build_part+build_repeat.{statement}
 use Rattle.nodes.proofs.fragment.+build_after+build_around+build_bottom+build_copies+build_copy+build_part+build_repeat.Tie.{close}

@@ -1,8 +1,8 @@
 -- `combine`: X's end is linked to Y's start, or the two are forked.
 use borrow.Author.Needs.{needs}
 use native.Mathlib.Nat.{add-zero}
+use Rattle.spine.proofs.SpineLaws.{no-row}
 use Rattle.nodes.proofs.BuiltLaws.{joined-built}
-use Rattle.nodes.proofs.SpineLaws.{no-row}
 use Rattle.nodes.proofs.fragment.combine.Statement.{statement}
 use Rattle.nodes.proofs.fragment.combine.Tie as tie
 

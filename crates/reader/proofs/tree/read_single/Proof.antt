@@ -11,7 +11,7 @@ use Rattle.rules.specs.Grammar.{noClass, noEscape}
 use Rattle.rules.specs.Reader.{setOr, byteOr}
 use Rattle.signs.specs.Signs.{signOf}
 use Rattle.signs.specs.Answers.{byteOf}
-use Rattle.sets.specs.ByteSets.{bytesOf}
+use Rattle.bytesets.specs.ByteSets.{bytesOf}
 use Rattle.classes.specs.Classes.{classOf}
 use Rattle.signs.proofs.Places.{read-some, read-none}
 use Rattle.reader.proofs.TokenLaws.{token-of, repeat-here, stray-here, plain-here}

@@ -1,0 +1,4 @@
+pub mod FirstLaws
+pub mod ListLaws
+pub mod KeptLaws
+pub mod RunLaws
