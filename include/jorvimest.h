@@ -32,10 +32,10 @@ extern "C" {
 #endif
 
 /* The version, and the toolchain that it was made with, as `rt version` names it. */
-#define JORVIMEST_VERSION "0.0.2"
+#define JORVIMEST_VERSION "0.0.3"
 #define JORVIMEST_VERSION_MAJOR 0
 #define JORVIMEST_VERSION_MINOR 0
-#define JORVIMEST_VERSION_PATCH 2
+#define JORVIMEST_VERSION_PATCH 3
 #define JORVIMEST_TOOLCHAIN "rattle-kit-5b logic 064da1ca440f63e7"
 
 /* Sizes: bytes of a pattern, groups open at once, nodes of a pattern, rows of a table, bytes of a text, at most. */

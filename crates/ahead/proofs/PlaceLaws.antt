@@ -13,6 +13,7 @@ use borrow.Author.Tests.{eq-eqb, ne-eqb}
 use Rattle.rules.specs.Tools.{upFrom, any, kept, last, guard, orElse}
 use Rattle.rules.specs.Table.{Table, cell, after, begins, fits, takes, places, longest, starts}
 use Rattle.ahead.specs.Ahead.{mark, ahead, lastEnd, isStart, startsFrom}
+use Rattle.ahead.proofs.AheadLaws.{drop-next}
 
 -- ---- lists of places
 
@@ -27,7 +28,7 @@ last-cons x [] = refl
 last-cons x (y ∷ []) = refl
 last-cons x (y ∷ z ∷ l) = last-cons x (z ∷ l)
 
-or-none : (x : Option ℕ) → orElse x none ≡ x
+pub or-none : (x : Option ℕ) → orElse x none ≡ x
 or-none none = refl
 or-none (some e) = refl
 
@@ -87,6 +88,14 @@ module _ (w : Table) (t : List ℕ) where
       here : (a b : Bool) → a ≡ b → (l : List ℕ) {x : Option ℕ} → last l ≡ x → last (elim a [ true ↦ s ∷ l | false ↦ l ]) ≡ orElse x (guard b s)
       here a true e l f = ap (λ (a : Bool). last (elim a [ true ↦ s ∷ l | false ↦ l ])) e ∙ last-cons s l ∙ ap (λ (x : Option ℕ). orElse x (some s)) f
       here a false e l {x} f = ap (λ (a : Bool). last (elim a [ true ↦ s ∷ l | false ↦ l ])) e ∙ f ∙ sym (or-none x)
+
+  -- by whether a match ends here
+  pub end-next : {p : ℕ} → p < length t → (q : ℕ) (b : Bool) → fits (mark w q) false ≡ b → lastEnd w q p (drop p t) ≡ orElse (lastEnd w (cell w q (getD t p 0)) (p + 1) (drop (p + 1) t)) (guard b p)
+  unfolding lastEnd
+  end-next {p} h q b e =
+      ap (lastEnd w q p) (drop-next t p h)
+      ∙ ap (λ (n : ℕ). orElse (lastEnd w (cell w q (getD t p 0)) n (drop (p + 1) t)) (guard (fits (mark w q) false) p)) (sym (add-one p))
+      ∙ ap (λ (b : Bool). orElse (lastEnd w (cell w q (getD t p 0)) (p + 1) (drop (p + 1) t)) (guard b p)) e
 
   pub longest-at : (s : ℕ) → s ≤ length t → longest w t s ≡ lastEnd w (begins w s) s (drop s t)
   unfolding longest takes

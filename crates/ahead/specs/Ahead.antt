@@ -11,6 +11,7 @@ use Rattle.rules.specs.Tools.{kept, guard, orElse}
 use Rattle.rules.specs.Sizes.{rowsMost, textMost}
 use Rattle.rules.specs.Table.{Table, cell, begins, fits, places, WellFormed}
 use Rattle.table.specs.Lent.{tableOf}
+use Rattle.table.specs.Stays.{Stays}
 use Rattle.ahead.specs.declared.Rows.{Rows}
 use Rattle.ahead.specs.declared.Walk.{Walk}
 
@@ -37,7 +38,7 @@ startsFrom w t s = kept (isStart w t) (places t s)
 
 -- no byte leaves row q, and it makes no match
 pub record Stuck (w : Table) (q : ℕ) : Type 0 where
-  pub stays : (b : ℕ) → b < 256 → cell w q b ≡ q
+  pub stays : Stays w q
   pub barren : fits (mark w q) true ≡ false
 
 -- what every walk asks: the dead row is stuck, if it is a row

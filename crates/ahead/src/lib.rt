@@ -31,15 +31,7 @@ fn stuck(rows: u16, head: Row, cells: &[u16], marks: &[u8], q: u16) -> bool
     if table::ends_here(marks[q as usize], true) {
         return false;
     }
-    let from = 256 * (q as usize);
-    let mut b: usize = 0;
-    while b < 256 {
-        if cells[from + b] != q {
-            return false;
-        }
-        b += 1;
-    }
-    true
+    table::no_byte_leaves(cells, Row(q))
 }
 
 // The first row that is stuck; `rows` where none is.

@@ -1,23 +1,27 @@
 -- A row filled run by run.
 use mathlib.Core.Path.{_≡_, refl, sym, ap, _∙_, subst}
-use mathlib.Core.Logic.{⊎-elim}
-use mathlib.Core.Bool.{_&&_}
-use mathlib.Core.List.{List}
-use Prim.Native.Nat.{ℕ, suc, _+_, _-_, _≤_, _<_}
+use mathlib.Core.Logic.{_≢_, inl, inr, ⊎-elim}
+use mathlib.Core.Bool.{Bool, true, _&&_}
+use mathlib.Core.List.{List, _∷_}
+use Prim.Native.Nat.{ℕ, zero, suc, _+_, _-_, _≤_, _<_}
 use native.Mathlib.Decide.{decLt}
 use native.Mathlib.Omega.{arith}
 use lib.Dec.{T}
-use lib.ListN.{length, getD, replicate, length-replicate, getD-replicate}
-use Rattle.rules.specs.Tools.{has}
+use lib.ListN.{length, getD, take, replicate, length-replicate, getD-replicate, List·getD-eq-default}
+use Rattle.rules.specs.Tools.{has, same}
+use Rattle.rules.specs.Sizes.{wordsARow}
 use Rattle.rules.specs.Tree.{Tree}
 use Rattle.rules.specs.SetRows.{machine, row-at, setRows, rowCount}
-use Rattle.rules.proofs.Tests.{both-left, both-right, both}
+use Rattle.rules.proofs.Tests.{is-true, both-left, both-right, both}
+use Rattle.rules.proofs.Lists.{same-eq}
+use Rattle.mixing.specs.Mixing.{buckets}
 use Rattle.cells.specs.Taken.{Taken}
-use Rattle.nodesets.specs.NodeSets.{maskOf, rowWords, meets}
-use Rattle.known.specs.Known.{Unknown, Book, TookIn}
+use Rattle.nodesets.specs.NodeSets.{maskOf, rowWords, meets, Within}
+use Rattle.known.specs.Known.{Unknown, Book, RowOf, TookIn}
 use Rattle.runs.specs.Runs.{Starts, InRun}
-use Rattle.cells.specs.Cells.{placeOf, Going, takenAt, putRun, MasksUnder, RowsUnder, AtRow, FilledTo}
-use Rattle.nodesets.proofs.NodeSetLaws.{meets-has}
+use Rattle.cells.specs.Cells.{placeOf, Going, takenAt, putRun, MasksUnder, RowsUnder, TakenBefore, AtRow, FilledTo}
+use Rattle.nodesets.proofs.NodeSetLaws.{meets-has, length-meets, meets-within}
+use Rattle.known.proofs.Buckets.{empty-known}
 use Rattle.sets.proofs.Parts.{put-length, put-below, put-at}
 use Rattle.cells.proofs.InOrder.{run-same, going-fresh, going-on, going-took}
 
@@ -34,6 +38,58 @@ taken-run {set = set} {masks = masks} k b R l in-run = record {
         (both (has (maskOf set) u) (has (maskOf (rowWords (length set) masks k)) u) (rw (R .nodes) at (h .0)) (R .masked k b l in-run .just u .1 (h .1))),
   );
 }
+
+-- ---- what was taken before
+
+zero-at : (n j : ℕ) → _≡_ {A = ℕ} (getD (replicate n 0) j 0) 0
+zero-at n j = go (decLt j n)
+  where
+    go : Dec (j < n) → _≡_ {A = ℕ} (getD (replicate n 0) j 0) 0
+    go (yes l) = getD-replicate n j 0 0 l
+    go (no m) = List·getD-eq-default (replicate n 0) 0 {n = j} (omega (arith, length-replicate {A = ℕ} n 0))
+
+pub zeros-front : (n m : ℕ) → n ≤ m → _≡_ {A = List ℕ} (take n (replicate m 0)) (replicate n 0)
+zeros-front zero m l = refl
+zeros-front (suc n) zero l = absurd (omega arith)
+zeros-front (suc n) (suc m) l = ap {B = List ℕ} (λ xs. 0 ∷ xs) (zeros-front n m (omega arith))
+
+-- at first the empty set
+pub taken-first : {from to room : ℕ} {set taken sets heads nexts : List ℕ} {c : ℕ} → taken ≡ replicate (length set) 0 → length set ≤ wordsARow → Within from to set
+    → Book (length set) room sets heads nexts c → TakenBefore from to (length set) sets c taken (getD heads buckets 0)
+taken-first {room = room} {set} {taken} {sets} {heads} {nexts} {c} e short W B = record {
+  long = long;
+  within = record { low = W .low; high = omega (arith, W .high, long); before = λ i l. none i; after = λ i l. none i };
+  row = subst (λ (w : ℕ). RowOf w sets c taken (getD heads buckets 0)) long (empty-known taken (subst (λ (w : ℕ). Book w room sets heads nexts c) (sym long) B) (omega (arith, long)) none);
+}
+  where
+    long : length taken ≡ length set
+    long = ap length e ∙ length-replicate {A = ℕ} (length set) 0
+
+    none : (j : ℕ) → getD taken j 0 ≡ 0
+    none j = rw e (zero-at (length set) j)
+
+-- the same again
+pub taken-again : {w room from to : ℕ} {sets heads nexts taken new : List ℕ} {c r : ℕ} {b : Bool} → Book w room sets heads nexts c → TakenBefore from to w sets c taken r → r ≢ 0
+    → b ≡ same taken new → b ≡ true → TookIn w room sets c new sets heads nexts r c
+taken-again {taken = taken} {new} B K ne e t = ⊎-elim (λ z. absurd (ne z)) (λ h. record {
+  book = B;
+  long = refl;
+  row = (h .0, h .1);
+  here = h .2 ∙ same-eq taken new (is-true _ (sym e ∙ t));
+  kept = λ i l. refl;
+  grown = inl refl;
+}) (K .row)
+
+-- after a run
+pub taken-more : (set mask : List ℕ) {from to room : ℕ} {sets taken new heads nexts : List ℕ} {c d r : ℕ} → length mask ≡ length set → Within from to set → taken ≡ meets set mask
+    → TookIn (length set) room sets c taken new heads nexts r d → TakenBefore from to (length set) new d taken r
+taken-more set mask l W e K = record {
+  long = ap length e ∙ length-meets set mask l;
+  within = rw e (meets-within set mask l W);
+  row = inr (K .row .0, K .row .1, K .here);
+}
+
+-- ---- run by run
 
 module _ {room : ℕ} {set starts masks : List ℕ} {runs : ℕ} {sets : List ℕ} {c : ℕ} where
   pub filled-none : {heads nexts row : List ℕ} {b : ℕ} → b ≡ 0 → Book (length set) room sets heads nexts c → FilledTo room set starts masks runs sets c sets heads nexts row c b

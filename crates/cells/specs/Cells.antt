@@ -9,10 +9,10 @@ use lib.ListN.{length, getD, take, drop, replicate}
 use Rattle.rules.specs.Tools.{has, place}
 use Rattle.rules.specs.Tree.{Tree}
 use Rattle.rules.specs.SetRows.{Machine, machine, sameRow, next, row-at, setRows, rowCount}
-use Rattle.nodesets.specs.NodeSets.{maskOf, rowWords}
+use Rattle.nodesets.specs.NodeSets.{maskOf, rowWords, Within}
 use Rattle.closing.specs.Closing.{closing}
 use Rattle.cells.specs.Taken.{Leaving, Taken}
-use Rattle.known.specs.Known.{Book}
+use Rattle.known.specs.Known.{Book, RowOf}
 use Rattle.runs.specs.Runs.{InRun}
 use Rattle.cells.specs.declared.Filled.{Filled}
 use Rattle.cells.specs.declared.Filled.the-variants as filled
@@ -57,6 +57,12 @@ unfoldable pub nodesOf : List ℕ → List ℕ → List ℕ → (ℕ → ℕ) �
 nodesOf kind to1 to2 taken q = closing (eqb q 1) false kind to1 to2 (seedsOf taken q)
 
 -- ---- rows filled
+
+-- what was taken before, in w words of which those from `from` to `to` are in use: row r, of the c rows, has it, or r is 0
+pub record TakenBefore (from to w : ℕ) (sets : List ℕ) (c : ℕ) (taken : List ℕ) (r : ℕ) : Type 0 where
+  pub long : length taken ≡ w
+  pub within : Within from to taken
+  pub row : RowOf w sets c taken r
 
 -- the cells from a on and before e become r
 abbrev pub putRun : List ℕ → ℕ → ℕ → ℕ → List ℕ

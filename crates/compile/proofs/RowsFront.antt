@@ -17,8 +17,8 @@ use Rattle.rules.proofs.SetRowsAll.{byte-in, byte-at}
 use Rattle.rules.proofs.CompiledTable.{G, rows-few}
 use Rattle.rows.specs.Rows.{SameRoom, RowsIn}
 use Rattle.cells.specs.Cells.{placeOf}
-use Rattle.parting.specs.Room.{rowsOf}
-use Rattle.parting.proofs.ClassLaws.{rows-length, row-at, cell-at}
+use Rattle.grid.specs.Rows.{rowsOf}
+use Rattle.grid.proofs.GridLaws.{rows-length, row-at, cell-at}
 use Rattle.merge.specs.Merge.{Lent, Stands}
 use Rattle.compile.specs.Outcomes.{Front}
 

@@ -17,7 +17,7 @@ use Rattle.kinds.specs.declared.Row.{Row}
 use Rattle.reader.specs.Reading.{answer, ProgramOf}
 use Rattle.rows.specs.Rows.{SomeNodes, SameRoom, Lists}
 use Rattle.rows.specs.declared.Listed.the-variants as listed
-use Rattle.parting.specs.Room.{rowsOf}
+use Rattle.grid.specs.Rows.{rowsOf}
 use Rattle.merge.specs.Merge.{Lent, Stands}
 use Rattle.compile.specs.Outcomes.{DrewAs, DrewNodes, SomeProgram, DrewProgram, Drew}
 use Rattle.answers.specs.declared.Compiled.{Compiled}
@@ -36,7 +36,7 @@ pattern-refused p {old} e = record { room = same-room; drew = not-read p old e }
 
 module _ {p words : List ℕ} {n : ℕ} (P : ProgramOf p words n) where
   pub program-whole : SomeProgram words n
-  program-whole = record { part = record { tree = P .tree; start = 0; is = P .program }; within = P .fits }
+  program-whole = record { part = record { tree = P .tree; start = 0; is = P .program }; within = P .fits; short = P .short }
 
   pub program-drawn : {old new : Room} {r : Compiled} → DrewProgram words n old new r → Drew p old new r
   unfolding program-whole

@@ -8,6 +8,7 @@ use Rattle.rules.specs.Table.{Table}
 use Rattle.rules.specs.Answers.{Answer, refused, given}
 use Rattle.rules.specs.Compile.{Room, Outcome, limited, drawn, compile}
 use Rattle.kinds.specs.Refusals.{refusalOf}
+use Rattle.program.specs.Program.{programMost}
 use Rattle.spine.specs.Parts.{Part}
 use Rattle.rows.specs.Rows.{NodesOf, SameRoom}
 use Rattle.answers.specs.declared.Compiled.{Compiled}
@@ -49,10 +50,15 @@ pub record DrewAs (a : Answer Table) (old new : Room) (r : Compiled) : Type 0 wh
 abbrev pub DrewNodes : List ℕ → List ℕ → List ℕ → List ℕ → List ℕ → Room → Room → Compiled → Type 0
 DrewNodes program kind to1 to2 atom old new r = (X : Tree) → NodesOf program X kind to1 to2 atom → DrewAs (limited old X) old new r
 
+-- bytes of a short pattern
+abbrev pub shortMost : ℕ
+shortMost = 126
+
 -- the first n words are a tree's program
 pub record SomeProgram (program : List ℕ) (n : ℕ) : Type 0 where
   pub part : Part program n
   pub within : n ≤ length program
+  pub short : n ≤ programMost
 
 -- what is due of the tree whose program is given
 abbrev pub DrewProgram : List ℕ → ℕ → Room → Room → Compiled → Type 0

@@ -2,9 +2,8 @@
 ghost use mathlib.Core.Path.{_≡_};
 ghost use mathlib.Core.List.{[], _∷_, _++_, map};
 ghost use Prim.Native.Nat.{ℕ, _+_, _*_, _/_, _%_, _<_};
-ghost use lib.Dec.{eqb};
 ghost use lib.ListN.{length, getD};
-ghost use Rattle.rules.specs.Tools.{upFrom, all, flat};
+ghost use Rattle.rules.specs.Tools.{upFrom, flat};
 ghost use Rattle.rules.specs.Listing.{decimal, runs};
 ghost use Rattle.table.specs.Lent.{tableOf};
 ghost use Rattle.writing.specs.Writing.{Room, Writes};
@@ -16,6 +15,7 @@ use answers::Text;
 use kinds::Refusal;
 use kinds::Row;
 use table::ends_here;
+use table::no_byte_leaves;
 use writing::answer;
 use writing::put;
 use writing::put_all;
@@ -89,19 +89,6 @@ fn put_shape(out: &mut [u8], at: usize, q: Row, mark: u8) -> usize
     put_all(out, at, b";\n")
 }
 
-// Whether all cells lead to one row.
-fn all_to(cells: &[u16], q: Row) -> bool
-    ensures { λ r. ⌜ r ≡ all (λ c. eqb c (q .0)) (now (cells .entry)) ⌝ }
-{
-    let mut same = true;
-    let mut i: usize = 0;
-    while i < cells.len() {
-        same = same & (cells[i] == q.0);
-        i += 1;
-    }
-    same
-}
-
 // A row that no reading leaves and in which no match ends, unless reading begins there.
 fn is_trap(head: Row, cells: &[u16], marks: &[u8], q: Row) -> bool
     requires { ⌜ Lent (now cells) (now marks) (q .0) ⌝ }
@@ -117,7 +104,7 @@ fn is_trap(head: Row, cells: &[u16], marks: &[u8], q: Row) -> bool
     if ends_here(marks[i], true) {
         return false;
     }
-    all_to(&cells[256 * i..256 * i + 256], q)
+    no_byte_leaves(cells, q)
 }
 
 // The arrow of a run; none to a trap.

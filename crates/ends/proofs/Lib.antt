@@ -1,1 +1,2 @@
 pub mod AnswersOnce
+pub mod ReadingLaws

@@ -3,57 +3,25 @@ use mathlib.Core.Path.{_≡_, refl, sym, ap, _∙_, subst}
 use mathlib.Core.Logic.{_≢_, _⊎_, inl, inr, ⊎-elim}
 use mathlib.Core.Bool.{Bool, true, false}
 use mathlib.Core.List.{List}
-use Prim.Native.Nat.{ℕ, _+_, _*_, _-_, _/_, _%_, _^_, _≤_, _<_}
+use Prim.Native.Nat.{ℕ, _+_, _*_, _-_, _^_, _≤_, _<_}
 use native.Mathlib.Decide.{ℕ-discrete, decLt}
-use native.Mathlib.Numerals.{add-one}
 use native.Mathlib.Omega.{arith}
-use borrow.Author.Tests.{eq-eqb, ne-eqb}
 use borrow.Rule.Slice.PartMut.{putMid}
-use lib.Bits.{bitXor}
-use lib.ListN.{length, getD, set, take, drop, length-set, length-take, drop-of-length-le, List·getD-eq-default}
-use lib.Seq.{drop-cons, length-take-le, getD-take, getD-drop, getD-set-same, getD-set-other}
+use lib.ListN.{length, getD, set, take, drop, length-set, length-take, List·getD-eq-default}
+use lib.Seq.{length-take-le, getD-take, getD-drop, getD-set-same, getD-set-other}
 use Rattle.rules.specs.Tools.{same}
 use Rattle.rules.specs.Sizes.{rowsMost, wordsARow}
-use Rattle.rules.proofs.Tests.{is-true, is-false}
+use Rattle.rules.proofs.Tests.{is-true, is-false, by-test}
 use Rattle.rules.proofs.Lists.{same-eq, same-refl}
+use Rattle.mixing.specs.Mixing.{buckets}
 use Rattle.nodesets.specs.NodeSets.{rowWords}
 use Rattle.kinds.specs.declared.Row.{Row}
 use Rattle.known.specs.declared.Found.{Found}
 use Rattle.known.specs.declared.Found.the-variants.{At, Nothing}
-use Rattle.known.specs.Known.{buckets, mixed, mixedIn, allMixed, bucketOf, bucketAt, Greatest, Linked, Unknown, FoundAs, Book, Stored, TookIn}
+use Rattle.known.specs.Known.{bucketOf, bucketAt, Greatest, Linked, Unknown, FoundAs, Book, RowOf, Stored, TookIn}
+use Rattle.known.proofs.Mixed.{bucket-le, empty-same, bucket-empty}
 use Rattle.nodesets.proofs.NodeSetLaws.{mask-told, part-size, row-part, row-long}
 use Rattle.sets.proofs.Parts.{put-length, put-part, put-ahead}
-
--- ---- the bucket of a set
-
-pub mixed-lt : (h : ℕ) → h < 2 ^ 64 → mixed h < 17293822569102704640
-mixed-lt h l = parts (h % 2 ^ 32) (h / 2 ^ 32) (omega arith) (omega arith)
-  where
-    parts : (r q : ℕ) → r < 4294967296 → q < 4294967296 → r * 2654435761 + q < 17293822569102704640
-    parts r q l m = omega arith
-
-module _ (h i x : ℕ) where
-  pub mixed-past : x ≡ 0 → h ≡ mixedIn h i x
-  unfolding mixedIn
-  mixed-past e = sym (ap (λ (b : Bool). elim b [ true ↦ h | false ↦ mixed (bitXor h x) + i * 2246822519 ]) (eq-eqb x 0 e))
-
-  pub mixed-word : x ≢ 0 → mixed (bitXor h x) + i * 2246822519 ≡ mixedIn h i x
-  unfolding mixedIn
-  mixed-word ne = sym (ap (λ (b : Bool). elim b [ true ↦ h | false ↦ mixed (bitXor h x) + i * 2246822519 ]) (ne-eqb x 0 ne))
-
--- the words so far, and what is left to mix in
-module _ (words : List ℕ) (i h : ℕ) where
-  pub mixed-more : {g : ℕ} → i < length words → g ≡ mixedIn h i (getD words i 0) → allMixed h i (drop i words) ≡ allMixed 0 0 words → allMixed g (i + 1) (drop (i + 1) words) ≡ allMixed 0 0 words
-  unfolding allMixed
-  mixed-more l e k = rw (e, add-one) (ap (allMixed h i) (sym (drop-cons words i 0 l)) ∙ k)
-
-  pub mixed-end : {g : ℕ} → length words ≤ i → g ≡ mixed h → allMixed h i (drop i words) ≡ allMixed 0 0 words → g / 2 ^ 32 % buckets ≡ bucketOf words
-  unfolding allMixed bucketOf
-  mixed-end l e k = rw e (ap (λ (z : ℕ). mixed z / 2 ^ 32 % buckets) (ap (allMixed h i) (sym (drop-of-length-le words l)) ∙ k))
-
-pub bucket-lt : (words : List ℕ) → bucketOf words < buckets
-unfolding bucketOf
-bucket-lt words = omega arith
 
 -- ---- rows of set words
 
@@ -123,12 +91,22 @@ module _ {sets words : List ℕ} {c : ℕ} where
             go (no z) = omega arith
 
 -- what comparing says of row r
-pub sought-at : (sets : List ℕ) (r : ℕ) (words : List ℕ) {b : Bool} → b ≡ same (take (wordsARow * r + length words - wordsARow * r) (drop (wordsARow * r) sets)) words
+pub sought-at : (sets : List ℕ) (r : ℕ) (words : List ℕ) {b : Bool} → b ≡ same (rowWords (length words) sets r) words
     → (b ≡ true → rowWords (length words) sets r ≡ words) × (b ≡ false → rowWords (length words) sets r ≢ words)
-sought-at sets r words {b} e = ((λ t. same-eq (rowWords (length words) sets r) words (is-true _ (sym as-row ∙ t))), λ f q. is-false b f (rw (as-row, q) (same-refl words)))
+sought-at sets r words {b} e = ((λ t. same-eq (rowWords (length words) sets r) words (is-true _ (sym e ∙ t))), λ f q. is-false b f (rw (e, q) (same-refl words)))
+
+-- one word that differs is enough
+pub told-apart : (sets : List ℕ) (r : ℕ) (words : List ℕ) (i : ℕ) → i < length words → getD sets (wordsARow * r + i) 0 ≢ getD words i 0
+    → false ≡ same (rowWords (length words) sets r) words
+told-apart sets r words i l ne = by-test (same (rowWords (length words) sets r) words) (λ b. false ≡ b)
+    (λ t. absurd (ne (sym word ∙ ap (λ (xs : List ℕ). getD xs i 0) (same-eq (rowWords (length words) sets r) words t)))) (λ f. refl)
   where
-    as-row : b ≡ same (rowWords (length words) sets r) words
-    as-row = e ∙ ap (λ (xs : List ℕ). same xs words) (row-part sets r (length words))
+    word : getD (rowWords (length words) sets r) i 0 ≡ getD sets (wordsARow * r + i) 0
+    word = getD-take (length words) (drop (wordsARow * r) sets) i 0 l ∙ getD-drop (wordsARow * r) sets i 0
+
+pub same-row : (sets : List ℕ) (r w : ℕ) (words : List ℕ) {b : Bool} → b ≡ same (take (wordsARow * r + w - wordsARow * r) (drop (wordsARow * r) sets)) words
+    → b ≡ same (rowWords w sets r) words
+same-row sets r w words e = e ∙ ap (λ (xs : List ℕ). same xs words) (row-part sets r w)
 
 -- ---- a row more
 
@@ -155,7 +133,7 @@ module _ {w room : ℕ} {sets heads nexts new words : List ℕ} {c k : ℕ} (B :
   new-bucket = ap bucketOf (S .here) ∙ sym e
 
   -- the row is the first of its bucket
-  pub book-more : k < buckets → Book w room new (set heads k c) (set nexts c (getD heads k 0)) (c + 1)
+  pub book-more : k ≤ buckets → Book w room new (set heads k c) (set nexts c (getD heads k 0)) (c + 1)
   book-more lk = record {
     two = omega (arith, B .two);
     fits = omega arith;
@@ -167,7 +145,7 @@ module _ {w room : ℕ} {sets heads nexts new words : List ℕ} {c k : ℕ} (B :
     links = λ i l h. link i l h (ℕ-discrete i c);
   }
     where
-      first : (j : ℕ) → j < buckets → Dec (j ≡ k) → Greatest (bucketAt w new) j (c + 1) (getD (set heads k c) j 0)
+      first : (j : ℕ) → j ≤ buckets → Dec (j ≡ k) → Greatest (bucketAt w new) j (c + 1) (getD (set heads k c) j 0)
       first j lj (yes q) = rw (q, getD-set-same heads k c 0 (omega (arith, B .heads-long))) (record { most = λ i l h f. omega arith; is = inr (B .two, omega arith, new-bucket) })
       first j lj (no q) = rw (getD-set-other heads k j c 0 q) (greatest-other (λ f. q (sym f ∙ new-bucket)) (greatest-same same-bucket (B .firsts j lj)))
 
@@ -175,7 +153,7 @@ module _ {w room : ℕ} {sets heads nexts new words : List ℕ} {c k : ℕ} (B :
       link i l h (yes q) = rw (q, new-bucket, getD-set-same nexts c (getD heads k 0) 0 (omega (arith, B .nexts-long, B .few))) (greatest-same same-bucket (B .firsts k lk))
       link i l h (no q) = rw (getD-set-other nexts c i (getD heads k 0) 0 q, same-bucket i (omega arith)) (greatest-same (λ j m. same-bucket j (omega arith)) (B .links i l (omega arith)))
 
-  pub took-new : Unknown w sets c words → k < buckets → TookIn w room sets c words new (set heads k c) (set nexts c (getD heads k 0)) c (c + 1)
+  pub took-new : Unknown w sets c words → k ≤ buckets → TookIn w room sets c words new (set heads k c) (set nexts c (getD heads k 0)) c (c + 1)
   took-new none lk = record {
     book = book-more lk;
     long = S .long;
@@ -191,6 +169,28 @@ module _ (words : List ℕ) {room : ℕ} {sets heads nexts : List ℕ} {c : ℕ}
   pub lent : length (take c nexts) ≡ c
   lent = length-take-le c nexts (omega (arith, B .nexts-long, B .fits, B .few))
 
+  -- the row of the empty set, as soon as there is one
+  pub empty-row : {k : ℕ} → length words ≤ wordsARow → k ≡ buckets → k ≡ bucketOf words → getD heads k 0 ≢ 0
+      → (2 ≤ getD heads k 0) × (getD heads k 0 < c) × (rowWords (length words) sets (getD heads k 0) ≡ words)
+  empty-row {k} short z e ne = ⊎-elim (λ q. absurd (ne q))
+      (λ h. (h .0, h .1, empty-same (rowWords (length words) sets r) words (long (h .1)) (h .2 ∙ z) (sym e ∙ z))) (B .firsts k (omega arith) .is)
+    where
+      r : ℕ
+      r = getD heads k 0
+
+      long : r < c → length (rowWords (length words) sets r) ≡ length words
+      long l = row-long sets r (length words) (omega (arith, B .fits, B .long))
+
+  pub empty-known : length words ≤ wordsARow → ((j : ℕ) → getD words j 0 ≡ 0) → RowOf (length words) sets c words (getD heads buckets 0)
+  empty-known short z = go (ℕ-discrete (getD heads buckets 0) 0)
+    where
+      go : Dec (getD heads buckets 0 ≡ 0) → RowOf (length words) sets c words (getD heads buckets 0)
+      go (yes q) = inl q
+      go (no n) = inr (empty-row short refl (sym (bucket-empty words z)) n)
+
+  pub found-row : {r : ℕ} → (2 ≤ r) × (r < c) × (rowWords (length words) sets r ≡ words) → TookIn (length words) room sets c words sets heads nexts r c
+  found-row h = record { book = B; long = refl; row = (h .0, h .1); here = h .2; kept = λ i l. refl; grown = inl refl }
+
   pub find-asks : {k : ℕ} → length words ≤ wordsARow → k ≡ bucketOf words → (wordsARow * length (take c nexts) ≤ length sets) × ((length (take c nexts) ≤ rowsMost)
       × ((length words ≤ wordsARow) × (Linked (length words) sets (take c nexts) (length (take c nexts)) × Greatest (bucketAt (length words) sets) (bucketOf words) (length (take c nexts)) (getD heads k 0))))
   find-asks {k} short e = rw lent (
@@ -199,14 +199,13 @@ module _ (words : List ℕ) {room : ℕ} {sets heads nexts : List ℕ} {c : ℕ}
       omega (arith, B .fits, B .few),
       (
         short,
-        ((λ i l h. rw (getD-take c nexts i 0 h) (B .links i l h)), subst (λ (j : ℕ). Greatest (bucketAt (length words) sets) j c (getD heads k 0)) e (B .firsts k (rw e (bucket-lt words)))),
+        ((λ i l h. rw (getD-take c nexts i 0 h) (B .links i l h)), subst (λ (j : ℕ). Greatest (bucketAt (length words) sets) j c (getD heads k 0)) e (B .firsts k (rw e (bucket-le words)))),
       ),
     ),
   )
 
   pub found-at : {r : Row} {f : Found} → FoundAs (length words) sets (length (take c nexts)) words f → f ≡ At r → TookIn (length words) room sets c words sets heads nexts (r .0) c
-  found-at {r} F e = let h : FoundAs (length words) sets c words (At r) = rw (lent, e) at F in
-      record { book = B; long = refl; row = (h .0, h .1); here = h .2; kept = λ i l. refl; grown = inl refl }
+  found-at {r} F e = found-row (let h : FoundAs (length words) sets c words (At r) = rw (lent, e) at F in h)
 
   pub found-none : {f : Found} → FoundAs (length words) sets (length (take c nexts)) words f → f ≡ Nothing → Unknown (length words) sets c words
   found-none F e = rw (lent, e) at F

@@ -3,11 +3,12 @@ use mathlib.Core.Path.{_≡_}
 use mathlib.Core.Logic.{_⊎_}
 use mathlib.Core.Bool.{true, false}
 use mathlib.Core.List.{List, [], _∷_}
-use Prim.Native.Nat.{ℕ, suc, _+_, _*_, _/_, _%_, _^_, _≤_, _<_}
+use Prim.Native.Nat.{ℕ, suc, _+_, _*_, _≤_, _<_}
 use lib.Bits.{bitXor}
 use lib.Dec.{eqb}
 use lib.ListN.{length, getD}
 use Rattle.rules.specs.Sizes.{rowsMost, wordsARow}
+use Rattle.mixing.specs.Mixing.{buckets, mixed, bucketFor}
 use Rattle.nodesets.specs.NodeSets.{maskOf, rowWords}
 use Rattle.known.specs.declared.Found.{Found}
 use Rattle.known.specs.declared.Found.the-variants as found
@@ -15,12 +16,6 @@ use Rattle.known.specs.declared.Got.{Got}
 use Rattle.known.specs.declared.Got.the-variants as got
 
 -- ---- the bucket of a set
-
-abbrev pub buckets : ℕ
-buckets = 1024
-
-abbrev pub mixed : ℕ → ℕ
-mixed h = h % 2 ^ 32 * 2654435761 + h / 2 ^ 32
 
 -- word i mixed in; a word of 0 is passed by
 unfoldable pub mixedIn : ℕ → ℕ → ℕ → ℕ
@@ -31,8 +26,12 @@ unfoldable pub allMixed : ℕ → ℕ → List ℕ → ℕ
 allMixed h i [] = h
 allMixed h i (x ∷ xs) = allMixed (mixedIn h i x) (suc i) xs
 
+-- the empty set has a bucket of its own, past the others
+abbrev pub bucketIn : ℕ → ℕ
+bucketIn h = elim (eqb h 0) [ true ↦ buckets | false ↦ bucketFor h ]
+
 unfoldable pub bucketOf : List ℕ → ℕ
-bucketOf ws = mixed (allMixed 0 0 ws) / 2 ^ 32 % buckets
+bucketOf ws = bucketIn (allMixed 0 0 ws)
 
 -- that of row i
 abbrev pub bucketAt : ℕ → List ℕ → ℕ → ℕ
@@ -63,10 +62,14 @@ pub record Book (w room : ℕ) (sets heads nexts : List ℕ) (c : ℕ) : Type 0 
   pub fits : c ≤ room
   pub few : room ≤ rowsMost
   pub long : wordsARow * room ≤ length sets
-  pub heads-long : length heads ≡ buckets
+  pub heads-long : length heads ≡ suc buckets
   pub nexts-long : length nexts ≡ rowsMost
-  pub firsts : (k : ℕ) → k < buckets → Greatest (bucketAt w sets) k c (getD heads k 0)
+  pub firsts : (k : ℕ) → k ≤ buckets → Greatest (bucketAt w sets) k c (getD heads k 0)
   pub links : Linked w sets nexts c
+
+-- row r, of the c rows, has the set; or r is 0
+abbrev pub RowOf : ℕ → List ℕ → ℕ → List ℕ → ℕ → Type 0
+RowOf w sets c set r = (r ≡ 0) ⊎ ((2 ≤ r) × (r < c) × (rowWords w sets r ≡ set))
 
 -- row r of the set words becomes the set, and the rows before it stay
 pub record Stored (w : ℕ) (old new : List ℕ) (r : ℕ) (set : List ℕ) : Type 0 where

@@ -9,9 +9,10 @@ use Rattle.rules.specs.Sizes.{rowsMost}
 use Rattle.rules.specs.Grid.{Grid}
 use Rattle.rules.specs.Compiled.{merged}
 use Rattle.rules.proofs.MergedTable.{merged-exact}
-use Rattle.parting.specs.Dirty.{rowWords}
-use Rattle.parting.specs.Room.{rowsOf, Room}
-use Rattle.parting.proofs.ClassLaws.{rows-length, row-at}
+use Rattle.grid.specs.Rows.{rowWords}
+use Rattle.grid.specs.Rows.{rowsOf}
+use Rattle.parting.specs.Room.{Room}
+use Rattle.grid.proofs.GridLaws.{rows-length, row-at}
 use Rattle.merge.specs.Merge.{Stands}
 
 -- the front of a local array of zeros
@@ -36,16 +37,16 @@ module _ (cells marks : List ℕ) (n : ℕ) (room : 256 * n ≤ length cells) (m
   pub front-grid : Grid (rowsOf cells n) (take n marks) → Grid (rowsOf (take (256 * n) cells) (length (take n marks))) (take n marks)
   front-grid = subst (λ (r : List (List ℕ)). Grid r (take n marks)) (sym front-rows)
 
-  pub front-room : {preds class next parted dirty : List ℕ} → n ≤ rowsMost → length preds ≡ rowWords * n → length class ≡ n → length next ≡ n → length parted ≡ n → length dirty ≡ rowWords
-      → Room (take (256 * n) cells) preds class next parted dirty (length (take n marks))
-  front-room {preds} {class} {next} {parted} {dirty} few p c x r d = subst (Room (take (256 * n) cells) preds class next parted dirty) (sym (length-take-le n marks many)) (record {
+  pub front-room : {preds class number order touched : List ℕ} → n ≤ rowsMost → length preds ≡ rowWords * n → length class ≡ n → length number ≡ n → length order ≡ n → length touched ≡ rowWords
+      → Room (take (256 * n) cells) preds class number order touched (length (take n marks))
+  front-room {preds} {class} {number} {order} {touched} few p c x r d = subst (Room (take (256 * n) cells) preds class number order touched) (sym (length-take-le n marks many)) (record {
     few = few;
     cells-long = length-take-le (256 * n) cells room;
     preds-long = p;
     class-long = c;
-    next-long = x;
-    parted-long = r;
-    dirty-long = d;
+    number-long = x;
+    order-long = r;
+    touched-long = d;
   })
 
   -- what stands at the front of the front stands at the front

@@ -12,8 +12,8 @@ use borrow.Author.Tests.{eq-eqb, ne-eqb}
 use lib.ListN.{length, getD, set, length-set, length-append, List·getD-append}
 use lib.Seq.{getD-set-same, getD-set-other, getD-at}
 use Rattle.rules.specs.Tools.{upFrom, kept}
-use Rattle.round.specs.Rounds.{Names}
-use Rattle.round.proofs.ListLaws.{set-next}
+use Rattle.grid.specs.Rows.{Names}
+use Rattle.grid.proofs.ListLaws.{set-next}
 use Rattle.merge.specs.Numbers.{isKept, rank, Moved}
 
 -- ---- counting

@@ -11,10 +11,10 @@ use Rattle.rules.specs.Compiled.{classes, merged}
 use Rattle.rules.proofs.Lists.{kept-inj}
 use Rattle.rules.proofs.Classes.{classes-named}
 use Rattle.rules.proofs.MergedTable.{keep, number, number-at, keep-in, kept-own, number-keep, kept-cell, kept-mark, merged-exact, low, again}
-use Rattle.round.specs.Rounds.{Rows, Names}
-use Rattle.round.proofs.RoundLaws.{cell-in}
-use Rattle.parting.specs.Room.{rowsOf}
-use Rattle.parting.proofs.ClassLaws.{rows-length, cell-at, in-rows, out-rows}
+use Rattle.grid.specs.Rows.{Rows, Names}
+use Rattle.grid.proofs.GridLaws.{cell-in}
+use Rattle.grid.specs.Rows.{rowsOf}
+use Rattle.grid.proofs.GridLaws.{rows-length, cell-at, in-rows, out-rows}
 use Rattle.merge.specs.Merge.{Stands}
 use Rattle.merge.specs.Numbers.{isKept, rank, Numbering, Lowered}
 use Rattle.merge.proofs.NumberLaws.{rank-le, rank-below, rank-place}

@@ -6,7 +6,7 @@ use lib.ListN.{length, take}
 use Rattle.rules.specs.Sizes.{rowsMost, wordsARow}
 use Rattle.rules.specs.Table.{Table}
 use Rattle.rules.specs.Grid.{Grid}
-use Rattle.parting.specs.Room.{rowsOf}
+use Rattle.grid.specs.Rows.{rowsOf}
 
 -- n rows, as listing set rows leaves them, at the front of the lent room
 pub record Lent (cells marks sets : List ℕ) (n : ℕ) : Type 0 where

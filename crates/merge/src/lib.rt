@@ -3,11 +3,12 @@ ghost use mathlib.Core.Path.{_≡_};
 ghost use lib.ListN.{length, take};
 ghost use Rattle.rules.specs.Grid.{Grid};
 ghost use Rattle.rules.specs.Compiled.{merged};
-ghost use Rattle.parting.specs.Room.{rowsOf, Room};
+ghost use Rattle.grid.specs.Rows.{rowsOf};
+ghost use Rattle.parting.specs.Room.{Room};
 ghost use Rattle.merge.specs.Merge.{Lent, Stands};
+use grid::ROW_WORDS;
 use kinds::ROWS;
 use kinds::Row;
-use round::grid::ROW_WORDS;
 
 mod lower;
 mod numbers;
@@ -24,17 +25,17 @@ fn merge_all(
     marks: &mut [u8],
     preds: &mut [u64],
     class: &mut [u16],
-    next: &mut [u16],
-    parted: &mut [u16],
-    dirty: &mut [u64],
+    number: &mut [u16],
+    order: &mut [u16],
+    touched: &mut [u64],
 ) -> Merged
-    requires { ⌜ Grid (rowsOf (now cells) (length (now marks))) (now marks) × Room (now cells) (now preds) (now class) (now next) (now parted) (now dirty) (length (now marks)) ⌝ }
+    requires { ⌜ Grid (rowsOf (now cells) (length (now marks))) (now marks) × Room (now cells) (now preds) (now class) (now number) (now order) (now touched) (length (now marks)) ⌝ }
     ensures { λ r. ⌜ Stands (merged (rowsOf (now (cells .entry)) (length (now (marks .entry)))) (now (marks .entry))) (now (cells .exit)) (now (marks .exit)) (r .rows) (r .head .0) ⌝ }
 {
-    parting::name(cells, marks, preds, class, next, parted, dirty);
-    let rows = numbers::give(class, next);
-    lower::move_down(cells, marks, class, next);
-    let head = Row(next[1]);
+    parting::name(cells, marks, preds, class, number, order, touched);
+    let rows = numbers::give(class, number);
+    lower::move_down(cells, marks, class, number);
+    let head = Row(number[1]);
     Merged {
         rows: rows,
         head: head,
@@ -49,16 +50,16 @@ pub fn merge(cells: &mut [u16], marks: &mut [u8], sets: &mut [u64], rows: u16) -
 {
     let n = rows as usize;
     let mut class = [0u16; ROWS];
-    let mut next = [0u16; ROWS];
-    let mut parted = [0u16; ROWS];
-    let mut dirty = [0u64; ROW_WORDS];
+    let mut number = [0u16; ROWS];
+    let mut order = [0u16; ROWS];
+    let mut touched = [0u64; ROW_WORDS];
     merge_all(
         &mut cells[..256 * n],
         &mut marks[..n],
         &mut sets[..ROW_WORDS * n],
         &mut class[..n],
-        &mut next[..n],
-        &mut parted[..n],
-        &mut dirty,
+        &mut number[..n],
+        &mut order[..n],
+        &mut touched,
     )
 }

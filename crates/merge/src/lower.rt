@@ -3,7 +3,7 @@ ghost use mathlib.Core.Path.{_≡_};
 ghost use Prim.Native.Nat.{ℕ, _+_, _*_, _≤_, _<_};
 ghost use lib.ListN.{length, getD};
 ghost use Rattle.rules.specs.Sizes.{rowsMost};
-ghost use Rattle.round.specs.Rounds.{Rows};
+ghost use Rattle.grid.specs.Rows.{Rows};
 ghost use Rattle.merge.specs.Numbers.{Moved, Lowered};
 
 // Row q to row i, each cell put through the numbers.

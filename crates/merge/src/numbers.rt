@@ -3,7 +3,7 @@ ghost use mathlib.Core.Path.{_≡_};
 ghost use Prim.Native.Nat.{_≤_};
 ghost use lib.ListN.{length};
 ghost use Rattle.rules.specs.Sizes.{rowsMost};
-ghost use Rattle.round.specs.Rounds.{Names};
+ghost use Rattle.grid.specs.Rows.{Names};
 ghost use Rattle.merge.specs.Numbers.{Numbering};
 
 // The new number of each row; how many rows are kept.

@@ -23,7 +23,7 @@ use Rattle.rules.proofs.Lists.{same-eq, same-refl}
 use Rattle.rules.proofs.Sets.{bit, bit-zero, bit-suc, has-bit, bit-has, zero-has, same-members, with-has, with-keeps, with-only, with-lt, has-and}
 use Rattle.sets.specs.Sets.{member, putIn}
 use Rattle.sets.proofs.SetLaws.{put-long, put-in, put-other}
-use Rattle.nodesets.specs.NodeSets.{maskOf, rowWords, meets, doubled, TakenOut}
+use Rattle.nodesets.specs.NodeSets.{maskOf, rowWords, meets, Within, doubled, TakenOut}
 
 -- ---- bits
 
@@ -319,6 +319,81 @@ apart-more a b i d h = ((λ e. below-more _ i (h .0 (split-apart .0 e .0)) (spli
 pub same-test : (a b : List ℕ) (d i : ℕ) → length a ≡ length b → i ≡ length a → (d ≡ 0) ↔ Agree a b i → eqb d 0 ≡ same a b
 same-test a b d i e q h = both-ways (eqb d 0) (same a b)
     ((λ t. rw (agree-same a b e (rw q at (h .0 (eqb→eq d 0 t)))) (same-refl b)), λ t. eq-test d 0 (h .1 (λ j l. ap (λ (xs : List ℕ). getD xs j 0) (same-eq a b t))))
+
+-- ---- words in use
+
+pub unused-more : (ws : List ℕ) (end : ℕ) → 0 < end → getD ws (end - 1) 0 ≡ 0 → ((i : ℕ) → end ≤ i → getD ws i 0 ≡ 0) → (i : ℕ) → end - 1 ≤ i → getD ws i 0 ≡ 0
+unused-more ws end some e h i l = go (ℕ-discrete i (end - 1))
+  where
+    go : Dec (i ≡ end - 1) → getD ws i 0 ≡ 0
+    go (yes q) = ap (λ (j : ℕ). getD ws j 0) q ∙ e
+    go (no n) = h i (omega arith)
+
+-- words from `from` on met again, up to word i: those before are what both have, the others are as they were
+pub record Again (old a b : List ℕ) (apart : ℕ) (out : List ℕ) (i : ℕ) : Type 0 where
+  pub long : length out ≡ length old
+  pub done : Agree out (meets a b) i
+  pub rest : (j : ℕ) → i ≤ j → getD out j 0 ≡ getD old j 0
+  pub told : (apart ≡ 0) ↔ Agree old (meets a b) i
+
+module _ (a b : List ℕ) where
+  -- a word that is not in use in a
+  meets-unused : (j : ℕ) → getD a j 0 ≡ 0 → getD (meets a b) j 0 ≡ 0
+  meets-unused j e = getD-meets a b j ∙ ap (λ (z : ℕ). bitAnd z (getD b j 0)) e ∙ and-zero-l (getD b j 0)
+
+  pub meets-within : {from to : ℕ} → length b ≡ length a → Within from to a → Within from to (meets a b)
+  meets-within e W = record {
+    low = W .low;
+    high = omega (arith, W .high, length-meets a b e);
+    before = λ i l. meets-unused i (W .before i l);
+    after = λ i l. meets-unused i (W .after i l);
+  }
+
+module _ (old a b : List ℕ) where
+  pub again-first : {from to : ℕ} → Within from to a → Within from to old → Again old a b 0 old from
+  again-first {from} W O = record { long = refl; done = none; rest = λ j l. refl; told = ((λ e. none), λ h. refl) }
+    where
+      none : Agree old (meets a b) from
+      none j l = O .before j l ∙ sym (meets-unused a b j (W .before j l))
+
+  module _ {apart i : ℕ} {out : List ℕ} (A : Again old a b apart out i) where
+    pub again-more : i < length old → Again old a b (bitOr apart (bitXor (getD out i 0) (bitAnd (getD a i 0) (getD b i 0)))) (set out i (bitAnd (getD a i 0) (getD b i 0))) (i + 1)
+    again-more l = record {
+      long = length-set out i (bitAnd (getD a i 0) (getD b i 0)) ∙ A .long;
+      done = agree-set out (meets a b) i (bitAnd (getD a i 0) (getD b i 0)) (omega (arith, A .long)) (sym (getD-meets a b i)) (A .done);
+      rest = λ j h. getD-set-other out i j (bitAnd (getD a i 0) (getD b i 0)) 0 (omega arith) ∙ A .rest j (omega arith);
+      told = rw (A .rest i (omega arith), sym (getD-meets a b i)) (apart-more old (meets a b) i apart (A .told));
+    }
+
+    pub again-end : {from to : ℕ} → length old ≡ length a → length b ≡ length a → i ≡ to → Within from to a → Within from to old → (out ≡ meets a b) × (eqb apart 0 ≡ same old out)
+    again-end e f q W O = (is, same-test-all)
+      where
+        long : length out ≡ length (meets a b)
+        long = A .long ∙ e ∙ sym (length-meets a b f)
+
+        past : (j : ℕ) → i ≤ j → getD out j 0 ≡ getD (meets a b) j 0
+        past j l = A .rest j l ∙ O .after j (omega arith) ∙ sym (meets-unused a b j (W .after j (omega arith)))
+
+        each : (j : ℕ) → getD out j 0 ≡ getD (meets a b) j 0
+        each j = go (decLt j i)
+          where
+            go : Dec (j < i) → getD out j 0 ≡ getD (meets a b) j 0
+            go (yes l) = A .done j l
+            go (no n) = past j (omega arith)
+
+        is : out ≡ meets a b
+        is = agree-same out (meets a b) long (λ j l. each j)
+
+        old-past : (j : ℕ) → i ≤ j → getD old j 0 ≡ getD (meets a b) j 0
+        old-past j l = O .after j (omega arith) ∙ sym (meets-unused a b j (W .after j (omega arith)))
+
+        same-test-all : eqb apart 0 ≡ same old out
+        same-test-all = rw is (same-test old (meets a b) apart (length old) (e ∙ sym (length-meets a b f)) refl
+            ((λ z j l. wide z j (decLt j i)), λ h. A .told .1 (λ j l. h j (omega (arith, O .high)))))
+          where
+            wide : apart ≡ 0 → (j : ℕ) → Dec (j < i) → getD old j 0 ≡ getD (meets a b) j 0
+            wide z j (yes l) = A .told .0 z j l
+            wide z j (no n) = old-past j (omega arith)
 
 -- ---- sets of numbers below a bound
 

@@ -4,7 +4,7 @@ use mathlib.Core.List.{List, [], _∷_}
 use Prim.Native.Nat.{ℕ, _+_, _*_, _/_, _%_, _^_, _≤_, _<_}
 use lib.Dec.{T}
 use lib.Bits.{bitAnd}
-use lib.ListN.{length, take, drop}
+use lib.ListN.{length, getD, take, drop}
 use Rattle.rules.specs.Tools.{has, with}
 use Rattle.rules.specs.Sizes.{wordsARow}
 
@@ -22,6 +22,13 @@ unfoldable pub meets : List ℕ → List ℕ → List ℕ
 meets [] ys = []
 meets (x ∷ xs) [] = []
 meets (x ∷ xs) (y ∷ ys) = bitAnd x y ∷ meets xs ys
+
+-- no word is in use but those from word `from` on and before word `to`
+pub record Within (from to : ℕ) (ws : List ℕ) : Type 0 where
+  pub low : from ≤ to
+  pub high : to ≤ length ws
+  pub before : (i : ℕ) → i < from → getD ws i 0 ≡ 0
+  pub after : (i : ℕ) → to ≤ i → getD ws i 0 ≡ 0
 
 -- the words of twice the set, where c is carried in from below
 unfoldable pub doubled : ℕ → List ℕ → List ℕ

@@ -1,10 +1,10 @@
 // Sets of nodes in words of 64 bits: node v is bit v % 64 of word v / 64.
 ghost use mathlib.Core.Path.{_≡_};
-ghost use Prim.Native.Nat.{_*_, _≤_, _<_};
+ghost use Prim.Native.Nat.{ℕ, _*_, _≤_, _<_};
 ghost use lib.ListN.{length, getD};
 ghost use Rattle.rules.specs.Tools.{has, with};
 ghost use Rattle.rules.specs.Tools as tools;
-ghost use Rattle.nodesets.specs.NodeSets.{maskOf, meets, doubled, TakenOut};
+ghost use Rattle.nodesets.specs.NodeSets.{maskOf, meets, Within, doubled, TakenOut};
 use kinds::Node;
 use sets::TOP_BIT;
 
@@ -54,6 +54,51 @@ pub fn meet(out: &mut [u64], a: &[u64], b: &[u64])
         out[i] = a[i] & b[i];
         i += 1;
     }
+}
+
+// The nodes that both sets have, where no word of `a` or `out` but those from `from` to `to` is in use; whether `out` had just these.
+pub fn meet_again(out: &mut [u64], a: &[u64], b: &[u64], from: usize, to: usize) -> bool
+    requires { ⌜ (length (now out) ≡ length (now a)) × ((length (now b) ≡ length (now a)) × (Within from to (now a) × Within from to (now out))) ⌝ }
+    ensures { λ r. ⌜ (now (out .exit) ≡ meets (now (a .entry)) (now (b .entry))) × (r ≡ tools.same (now (out .entry)) (now (out .exit))) ⌝ }
+{
+    let mut apart: u64 = 0;
+    let mut i = from;
+    while i < to {
+        let word = a[i] & b[i];
+        apart = apart | (out[i] ^ word);
+        out[i] = word;
+        i += 1;
+    }
+    apart == 0
+}
+
+// The first word in use; the number of words where there is none.
+pub fn first_used(set: &[u64]) -> usize
+    ensures { λ r. ⌜ (r ≤ length (now (set .entry))) × ((i : ℕ) → i < r → getD (now (set .entry)) i 0 ≡ 0) ⌝ }
+{
+    let mut i: usize = 0;
+    while i < set.len() {
+        if set[i] != 0 {
+            return i;
+        }
+        i += 1;
+    }
+    i
+}
+
+// Where the words in use end, none of which is before `from`.
+pub fn used_end(set: &[u64], from: usize) -> usize
+    requires { ⌜ from ≤ length (now set) ⌝ }
+    ensures { λ r. ⌜ (from ≤ r) × ((r ≤ length (now (set .entry))) × ((i : ℕ) → r ≤ i → getD (now (set .entry)) i 0 ≡ 0)) ⌝ }
+{
+    let mut end = set.len();
+    while from < end {
+        if set[end - 1] != 0 {
+            return end;
+        }
+        end -= 1;
+    }
+    end
 }
 
 // The nodes after those of the set.

@@ -1,2 +1,1 @@
-pub mod DirtyLaws
-pub mod ClassLaws
+pub mod PartLaws

@@ -1,4 +1,4 @@
--- the rows, and the room that parting is lent
+-- the room that parting is lent
 pub mod Room
 -- what its steps are given and leave
-pub mod Dirty
+pub mod Steps

@@ -4,7 +4,6 @@ use mathlib.Core.Bool.{Bool, true, false, true≢false}
 use mathlib.Core.List.{List}
 use mathlib.Core.Option.{Option, none, some}
 use Prim.Native.Nat.{ℕ, zero, suc, _+_, _≤_, _<_}
-use native.Mathlib.Numerals.{add-one}
 use native.Mathlib.Nat.{add-zero}
 use native.Mathlib.Decide.{ℕ-discrete}
 use native.Mathlib.Omega.{arith}
@@ -17,24 +16,17 @@ use Rattle.passing.specs.declared.Found.the-variants as found
 use Rattle.ahead.specs.Ahead.{mark, ahead, Stuck}
 use Rattle.passing.specs.Run.{foundOf, orMatch, firstOfList, otherwise}
 use Rattle.ahead.specs.Ahead.{lastEnd}
-use Rattle.ahead.proofs.AheadLaws.{drop-next, ahead-stuck, drop-bytes}
-use Rattle.ahead.proofs.PlaceLaws.{isSome, some-ahead}
+use Rattle.ahead.proofs.AheadLaws.{ahead-stuck, drop-bytes}
+use Rattle.ahead.proofs.PlaceLaws.{isSome, some-ahead, end-next}
 use Rattle.passing.proofs.FirstLaws.{first-none}
 
 -- ---- an entry, byte by byte
 
 module _ (w : Table) (t : List ℕ) where
   module _ {p : ℕ} (h : p < length t) (q s : ℕ) where
-    next-end : (b : Bool) → fits (mark w q) false ≡ b → lastEnd w q p (drop p t) ≡ orElse (lastEnd w (cell w q (getD t p 0)) (p + 1) (drop (p + 1) t)) (guard b p)
-    unfolding lastEnd
-    next-end b e =
-        ap (lastEnd w q p) (drop-next t p h)
-        ∙ ap (λ (n : ℕ). orElse (lastEnd w (cell w q (getD t p 0)) n (drop (p + 1) t)) (guard (fits (mark w q) false) p)) (sym (add-one p))
-        ∙ ap (λ (b : Bool). orElse (lastEnd w (cell w q (getD t p 0)) (p + 1) (drop (p + 1) t)) (guard b p)) e
-
     -- no match ends here
     pub match-later : (c : Option (ℕ × ℕ)) → fits (mark w q) false ≡ false → orMatch w t p q s c ≡ orMatch w t (p + 1) (cell w q (getD t p 0)) s c
-    match-later c e = ap (λ (x : Option ℕ). ifSome x (λ e. some (s, e)) c) (next-end false e) ∙ go (lastEnd w (cell w q (getD t p 0)) (p + 1) (drop (p + 1) t))
+    match-later c e = ap (λ (x : Option ℕ). ifSome x (λ e. some (s, e)) c) (end-next w t h q false e) ∙ go (lastEnd w (cell w q (getD t p 0)) (p + 1) (drop (p + 1) t))
       where
         go : (x : Option ℕ) → ifSome (orElse x none) (λ e. some (s, e)) c ≡ ifSome x (λ e. some (s, e)) c
         go none = refl
@@ -42,7 +34,7 @@ module _ (w : Table) (t : List ℕ) where
 
     -- a match ends here
     pub match-here : (c : Option (ℕ × ℕ)) → fits (mark w q) false ≡ true → orMatch w t p q s c ≡ orMatch w t (p + 1) (cell w q (getD t p 0)) s (some (s, p))
-    match-here c e = ap (λ (x : Option ℕ). ifSome x (λ e. some (s, e)) c) (next-end true e) ∙ go (lastEnd w (cell w q (getD t p 0)) (p + 1) (drop (p + 1) t))
+    match-here c e = ap (λ (x : Option ℕ). ifSome x (λ e. some (s, e)) c) (end-next w t h q true e) ∙ go (lastEnd w (cell w q (getD t p 0)) (p + 1) (drop (p + 1) t))
       where
         go : (x : Option ℕ) → ifSome (orElse x (some p)) (λ e. some (s, e)) c ≡ ifSome x (λ e. some (s, e)) (some (s, p))
         go none = refl

@@ -1,11 +1,10 @@
 // Reading a pattern: its tree as a program, or refusal 1 to 9 with its place.
-ghost use Rattle.reader.specs.Reading.{ReadAs};
+ghost use Rattle.reader.specs.Reading.{ProgramRoom, ReadAs};
 
 mod tree;
 
 use kinds::PATTERN_MOST;
 use kinds::Refusal;
-use program::PROGRAM_MOST;
 use tree::Got;
 
 // The length of the program in words; or why the pattern is turned away.
@@ -15,7 +14,8 @@ pub enum Reading {
 }
 
 // Writes the program of the pattern's tree to the start of `program`.
-pub fn read_pattern(pattern: &[u8], program: &mut [u64; PROGRAM_MOST]) -> Reading
+pub fn read_pattern(pattern: &[u8], program: &mut [u64]) -> Reading
+    requires { ⌜ ProgramRoom (now pattern) (now program) ⌝ }
     ensures { λ r. ⌜ ReadAs (now (pattern .entry)) (now (program .exit)) r ⌝ }
 {
     if PATTERN_MOST < pattern.len() {

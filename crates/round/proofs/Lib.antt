@@ -1,3 +1,2 @@
-pub mod ListLaws
-pub mod MarkLaws
-pub mod RoundLaws
+pub mod MemberLaws
+pub mod GroupLaws

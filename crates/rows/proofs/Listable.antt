@@ -45,7 +45,7 @@ module _ {program kind to1 to2 atom starts masks : List ℕ} {runs : ℕ} (R : R
     wide = omega arith;
     short = omega (arith, N .hold .few);
     parted = R .are;
-    long = omega (arith, R .long, R .are .few);
+    long = R .long;
     under = masks-under ((length kind + 63) / 64) N R (omega arith) (omega (arith, N .hold .few));
   }
 

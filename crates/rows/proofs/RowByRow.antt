@@ -3,7 +3,7 @@ use mathlib.Core.Path.{_≡_, sym, ap, _∙_}
 use mathlib.Core.Logic.{inl, ⊎-elim}
 use mathlib.Core.Bool.{false}
 use mathlib.Core.List.{List}
-use Prim.Native.Nat.{ℕ, _+_, _*_, _-_, _≤_, _<_, _^_}
+use Prim.Native.Nat.{ℕ, suc, _+_, _*_, _-_, _≤_, _<_, _^_}
 use native.Mathlib.Decide.{ℕ-discrete}
 use native.Mathlib.Omega.{arith}
 use borrow.Rule.Slice.PartMut.{putMid}
@@ -17,7 +17,8 @@ use Rattle.rules.specs.Compile.{Room, rowsFor}
 use Rattle.rules.proofs.SetRowsAll.{first-rows}
 use Rattle.nodesets.specs.NodeSets.{maskOf}
 use Rattle.closing.specs.Closing.{ways, Full, markBy}
-use Rattle.known.specs.Known.{buckets, Book}
+use Rattle.mixing.specs.Mixing.{buckets}
+use Rattle.known.specs.Known.{Book}
 use Rattle.rows.specs.Rows.{room as lent, RowsIn}
 use Rattle.cells.specs.Cells.{placeOf, takenAt, seedsOf, nodesOf, AtRow, FilledTo}
 use Rattle.rows.specs.Listing.{Given, TreeOf, RoomFor, ListedTo}
@@ -100,15 +101,15 @@ module _ (nodes : List ℕ) {kind to1 to2 starts masks : List ℕ} {runs words r
 -- ---- from start to end
 
 -- the inside row and the head row are in no bucket
-pub book-start : (w : ℕ) {room : ℕ} (sets : List ℕ) → 2 ≤ room → room ≤ rowsMost → wordsARow * room ≤ length sets → Book w room sets (replicate buckets 0) (replicate rowsMost 0) 2
+pub book-start : (w : ℕ) {room : ℕ} (sets : List ℕ) → 2 ≤ room → room ≤ rowsMost → wordsARow * room ≤ length sets → Book w room sets (replicate (suc buckets) 0) (replicate rowsMost 0) 2
 book-start w sets two few long = record {
   two = omega arith;
   fits = two;
   few = few;
   long = long;
-  heads-long = length-replicate {A = ℕ} buckets 0;
+  heads-long = length-replicate {A = ℕ} (suc buckets) 0;
   nexts-long = length-replicate {A = ℕ} rowsMost 0;
-  firsts = λ k l. record { most = λ i x y. absurd (omega arith); is = inl (getD-replicate buckets k 0 0 l) };
+  firsts = λ k l. record { most = λ i x y. absurd (omega arith); is = inl (getD-replicate (suc buckets) k 0 0 (omega arith)) };
   links = λ i x y. absurd (omega arith);
 }
 

@@ -3,6 +3,7 @@ ghost use mathlib.Core.Path.{_≡_};
 ghost use Prim.Native.Nat.{_+_, _/_, _≤_, _<_, min};
 ghost use lib.ListN.{length};
 ghost use Rattle.rules.specs.Compile.{rowsFor};
+ghost use Rattle.runs.specs.Runs.{PartedInto};
 ghost use Rattle.rows.specs.Rows.{SomeNodes, Lists};
 ghost use Rattle.rows.specs.Rows as lent;
 ghost use Rattle.closing.specs.Closing.{Tails};
@@ -15,8 +16,12 @@ use closing::marks::put_tails;
 use kinds::Node;
 use kinds::ROWS;
 use kinds::WORDS_A_ROW;
-use known::BUCKETS;
+use mixing::BUCKETS;
 use runs::make_runs;
+use runs::put_nodes;
+
+// So many runs are few.
+const FEW: usize = 16;
 
 // The number of set rows; or refusal 11.
 pub enum Listed {
@@ -98,7 +103,7 @@ fn list_all(
     let mut set = [0u64; WORDS_A_ROW];
     let mut pending = [0u64; WORDS_A_ROW];
     let mut tails = [0u64; WORDS_A_ROW];
-    let mut heads = [0u16; BUCKETS];
+    let mut heads = [0u16; BUCKETS + 1];
     let mut nexts = [0u16; ROWS];
     put_tails(&mut tails[..w], kind);
     let mut rows: usize = 2;
@@ -135,6 +140,76 @@ fn list_all(
     Listed::Rows(rows as u16)
 }
 
+// Lists the rows where there are few runs: their masks take little room.
+fn list_few(
+    program: &[u64],
+    kind: &[u8],
+    to1: &[u16],
+    to2: &[u16],
+    atom: &[u16],
+    starts: &[u16],
+    runs: usize,
+    cells: &mut [u16],
+    marks: &mut [u8],
+    sets: &mut [u64],
+    room: usize,
+) -> Listed
+    requires { ⌜ SomeNodes (now program) (now kind) (now to1) (now to2) (now atom) × (PartedInto (now program) (now kind) (now atom) (now starts) runs × (runs ≤ 16)) ⌝ }
+    requires { ⌜ (2 ≤ room) × (room ≡ rowsFor (lent.room (now cells) (now marks) (now sets))) ⌝ }
+    ensures { λ r. ⌜ Lists (now (program .entry)) (now (kind .entry)) (now (to1 .entry)) (now (to2 .entry)) (now (atom .entry))
+        (lent.room (now (cells .entry)) (now (marks .entry)) (now (sets .entry))) (lent.room (now (cells .exit)) (now (marks .exit)) (now (sets .exit))) r ⌝ }
+{
+    let mut masks = [0u64; WORDS_A_ROW * FEW];
+    put_nodes(&mut masks, program, kind, atom, starts, runs);
+    list_all(
+        kind,
+        to1,
+        to2,
+        starts,
+        &masks,
+        runs,
+        cells,
+        marks,
+        sets,
+        room,
+    )
+}
+
+// Lists the rows, however many runs there are.
+fn list_many(
+    program: &[u64],
+    kind: &[u8],
+    to1: &[u16],
+    to2: &[u16],
+    atom: &[u16],
+    starts: &[u16],
+    runs: usize,
+    cells: &mut [u16],
+    marks: &mut [u8],
+    sets: &mut [u64],
+    room: usize,
+) -> Listed
+    requires { ⌜ SomeNodes (now program) (now kind) (now to1) (now to2) (now atom) × PartedInto (now program) (now kind) (now atom) (now starts) runs ⌝ }
+    requires { ⌜ (2 ≤ room) × (room ≡ rowsFor (lent.room (now cells) (now marks) (now sets))) ⌝ }
+    ensures { λ r. ⌜ Lists (now (program .entry)) (now (kind .entry)) (now (to1 .entry)) (now (to2 .entry)) (now (atom .entry))
+        (lent.room (now (cells .entry)) (now (marks .entry)) (now (sets .entry))) (lent.room (now (cells .exit)) (now (marks .exit)) (now (sets .exit))) r ⌝ }
+{
+    let mut masks = [0u64; WORDS_A_ROW * 256];
+    put_nodes(&mut masks, program, kind, atom, starts, runs);
+    list_all(
+        kind,
+        to1,
+        to2,
+        starts,
+        &masks,
+        runs,
+        cells,
+        marks,
+        sets,
+        room,
+    )
+}
+
 fn least(a: usize, b: usize) -> usize
     ensures { λ r. ⌜ r ≡ min a b ⌝ }
 {
@@ -169,14 +244,29 @@ pub fn list_rows(
         return Listed::TooMany;
     }
     let mut starts = [0u16; 257];
-    let mut masks = [0u64; WORDS_A_ROW * 256];
-    let runs = make_runs(&mut starts, &mut masks, program, kind, atom);
-    list_all(
+    let runs = make_runs(&mut starts, program, kind, atom);
+    if runs <= FEW {
+        return list_few(
+            program,
+            kind,
+            to1,
+            to2,
+            atom,
+            &starts,
+            runs,
+            cells,
+            marks,
+            sets,
+            room,
+        );
+    }
+    list_many(
+        program,
         kind,
         to1,
         to2,
+        atom,
         &starts,
-        &masks,
         runs,
         cells,
         marks,

@@ -19,7 +19,7 @@ use Rattle.sets.specs.Sets.{member}
 use Rattle.sets.proofs.SetLaws.{none-in}
 use Rattle.program.specs.Program.{atomBytes}
 use Rattle.nodesets.specs.NodeSets.{maskOf, rowWords}
-use Rattle.runs.specs.Runs.{Starts, InRun, Crosses, Runs, PartedTo, Whole, maskAt, NodePut, MaskedTo}
+use Rattle.runs.specs.Runs.{Starts, Crosses, PartedInto, Runs, PartedTo, Whole, maskAt, NodePut, MaskedTo}
 use Rattle.nodesets.proofs.NodeSetLaws.{mask-has, part-size}
 use Rattle.sets.proofs.Parts.{put-length, put-part, put-ahead, put-after}
 use Rattle.runs.proofs.Parting.{alike}
@@ -147,16 +147,17 @@ module _ (program kind atom starts : List ℕ) (runs : ℕ) where
 
 -- ---- the masks hold for each byte of a run
 
-pub runs-are : (parted : List ℕ) {program kind atom starts masks : List ℕ} {runs : ℕ} → Starts starts runs → Whole parted starts runs → PartedTo (length kind) program kind atom parted
-    → length masks ≡ wordsARow * 256 → MaskedTo (length kind) program kind atom starts masks runs → Runs program kind atom starts masks runs
-runs-are parted {program} {kind} {atom} {starts} {masks} {runs} S W P long M = record {
-  are = S;
+pub parted-into : (parted : List ℕ) {program kind atom starts : List ℕ} {runs : ℕ} → Starts starts runs → Whole parted starts runs → PartedTo (length kind) program kind atom parted
+    → PartedInto program kind atom starts runs
+parted-into parted {program} {kind} {atom} S W P = record { are = S; alike = λ k b u lk i lu e. alike parted (atomBytes program (getD atom u 0)) S W (P u lu e) k b lk i }
+
+pub runs-are : {program kind atom starts masks : List ℕ} {runs : ℕ} → PartedInto program kind atom starts runs → wordsARow * runs ≤ length masks
+    → MaskedTo (length kind) program kind atom starts masks runs → Runs program kind atom starts masks runs
+runs-are {masks = masks} P long M = record {
+  are = P .are;
   long = long;
   masked = λ words k b u wide short lk i. (
-    (λ h. let g = M k u lk .0 (row-narrow words masks k u short .0 h .1) in (g .1 .0, g .1 .1, subst T (same k b u lk i (g .1 .0) (g .1 .1)) (g .1 .2))),
-    λ h. row-narrow words masks k u short .1 (omega (arith, h .0), M k u lk .1 (h .0, (h .0, h .1, subst T (sym (same k b u lk i (h .0) (h .1))) (h .2)))),
+    (λ h. let g = M k u lk .0 (row-narrow words masks k u short .0 h .1) in (g .1 .0, g .1 .1, subst T (P .alike k b u lk i (g .1 .0) (g .1 .1)) (g .1 .2))),
+    λ h. row-narrow words masks k u short .1 (omega (arith, h .0), M k u lk .1 (h .0, (h .0, h .1, subst T (sym (P .alike k b u lk i (h .0) (h .1))) (h .2)))),
   );
 }
-  where
-    same : (k b u : ℕ) → k < runs → InRun starts k b → u < length kind → getD kind u 0 ≡ 4 → has (atomBytes program (getD atom u 0)) (getD starts k 0) ≡ has (atomBytes program (getD atom u 0)) b
-    same k b u lk i lu e = alike parted (atomBytes program (getD atom u 0)) S W (P u lu e) k b lk i

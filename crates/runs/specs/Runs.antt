@@ -34,10 +34,15 @@ pub record Starts (starts : List ℕ) (runs : ℕ) : Type 0 where
 abbrev pub InRun : List ℕ → ℕ → ℕ → Type 0
 InRun starts k b = (getD starts k 0 ≤ b) × (b < getD starts (k + 1) 0)
 
+-- there are so many runs, and a node's atom has the bytes of a run, all or none
+pub record PartedInto (program kind atom starts : List ℕ) (runs : ℕ) : Type 0 where
+  pub are : Starts starts runs
+  pub alike : (k b u : ℕ) → k < runs → InRun starts k b → u < length kind → getD kind u 0 ≡ 4 → has (atomBytes program (getD atom u 0)) (getD starts k 0) ≡ has (atomBytes program (getD atom u 0)) b
+
 -- there are so many runs; mask k, in any number of words that is wide enough, has the nodes whose edge is crossed on the bytes of run k
 pub record Runs (program kind atom starts masks : List ℕ) (runs : ℕ) : Type 0 where
   pub are : Starts starts runs
-  pub long : length masks ≡ wordsARow * 256
+  pub long : wordsARow * runs ≤ length masks
   pub masked : (words k b u : ℕ) → length kind ≤ 64 * words → words ≤ wordsARow → k < runs → InRun starts k b
       → T (has (maskOf (rowWords words masks k)) u) ↔ Crosses program kind atom b u
 

@@ -1,10 +1,10 @@
 // Runs of bytes that no atom parts, and for each run the nodes whose edge is crossed on its bytes.
 ghost use mathlib.Core.Path.{_≡_};
-ghost use Prim.Native.Nat.{_*_, _<_};
+ghost use Prim.Native.Nat.{_*_, _≤_, _<_};
 ghost use lib.ListN.{length, getD, replicate};
 ghost use Rattle.rules.specs.Sizes.{nodesMost, wordsARow};
 ghost use Rattle.bytesets.specs.ByteSets.{bytesOf};
-ghost use Rattle.runs.specs.Runs.{Atoms, Starts, Runs, Changes, PartedBy, PartedTo, Whole, NodePut, MaskedTo};
+ghost use Rattle.runs.specs.Runs.{Atoms, Starts, PartedInto, Runs, Changes, PartedBy, PartedTo, Whole, NodePut};
 use bytesets::ByteSet;
 use entries::BYTES;
 use kinds::Node;
@@ -66,7 +66,7 @@ fn list_runs(starts: &mut [u16], parted: &[u64]) -> usize
 
 // Puts node u into the mask of each run whose bytes its atom has.
 fn put_node(masks: &mut [u64], set: ByteSet, u: Node, starts: &[u16], runs: usize)
-    requires { ⌜ (length (now masks) ≡ wordsARow * 256) × ((u .0 < nodesMost) × Starts (now starts) runs) ⌝ }
+    requires { ⌜ (wordsARow * runs ≤ length (now masks)) × ((u .0 < nodesMost) × Starts (now starts) runs) ⌝ }
     ensures { λ _. ⌜ NodePut (now (masks .entry)) (now (masks .exit)) (bytesOf set) (u .0) (now (starts .entry)) runs ⌝ }
 {
     let mut k: usize = 0;
@@ -81,7 +81,8 @@ fn put_node(masks: &mut [u64], set: ByteSet, u: Node, starts: &[u16], runs: usiz
     }
 }
 
-fn put_nodes(
+// The masks of the runs; they are all 0 before.
+pub fn put_nodes(
     masks: &mut [u64],
     program: &[u64],
     kind: &[u8],
@@ -89,8 +90,9 @@ fn put_nodes(
     starts: &[u16],
     runs: usize,
 )
-    requires { ⌜ (now masks ≡ replicate (wordsARow * 256) 0) × (Atoms (now program) (now kind) (now atom) × Starts (now starts) runs) ⌝ }
-    ensures { λ _. ⌜ (length (now (masks .exit)) ≡ wordsARow * 256) × MaskedTo (length (now (kind .entry))) (now (program .entry)) (now (kind .entry)) (now (atom .entry)) (now (starts .entry)) (now (masks .exit)) runs ⌝ }
+    requires { ⌜ (now masks ≡ replicate (length (now masks)) 0)
+        × ((wordsARow * runs ≤ length (now masks)) × (Atoms (now program) (now kind) (now atom) × PartedInto (now program) (now kind) (now atom) (now starts) runs)) ⌝ }
+    ensures { λ _. ⌜ Runs (now (program .entry)) (now (kind .entry)) (now (atom .entry)) (now (starts .entry)) (now (masks .exit)) runs ⌝ }
 {
     let mut u: usize = 0;
     while u < kind.len() {
@@ -107,20 +109,12 @@ fn put_nodes(
     }
 }
 
-// The number of runs; `starts` and `masks` are all 0 before.
-pub fn make_runs(
-    starts: &mut [u16],
-    masks: &mut [u64],
-    program: &[u64],
-    kind: &[u8],
-    atom: &[u16],
-) -> usize
-    requires { ⌜ (now starts ≡ replicate 257 0) × ((now masks ≡ replicate (wordsARow * 256) 0) × Atoms (now program) (now kind) (now atom)) ⌝ }
-    ensures { λ r. ⌜ Runs (now (program .entry)) (now (kind .entry)) (now (atom .entry)) (now (starts .exit)) (now (masks .exit)) r ⌝ }
+// The number of runs; `starts` is all 0 before.
+pub fn make_runs(starts: &mut [u16], program: &[u64], kind: &[u8], atom: &[u16]) -> usize
+    requires { ⌜ (now starts ≡ replicate 257 0) × Atoms (now program) (now kind) (now atom) ⌝ }
+    ensures { λ r. ⌜ PartedInto (now (program .entry)) (now (kind .entry)) (now (atom .entry)) (now (starts .exit)) r ⌝ }
 {
     let mut parted = [0u64; 4];
     part_bytes(&mut parted, program, kind, atom);
-    let runs = list_runs(starts, &parted);
-    put_nodes(masks, program, kind, atom, starts, runs);
-    runs
+    list_runs(starts, &parted)
 }

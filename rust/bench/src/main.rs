@@ -1,5 +1,5 @@
 //! `bench [walks] [finders] [compiling]`: the proved library beside the same work in plain Rust, in one run, a ratio a line; all of it
-//! where nothing is said.
+//! where nothing is said. `bench counted [FILE]`: the time and the instructions of compiling each pattern, those of the file too.
 use jorvimest::Lent;
 use std::hint::black_box;
 use std::time::Instant;
@@ -26,7 +26,7 @@ fn plain_check(t: &Lent) -> bool {
 /// # Safety
 /// The table is well formed.
 #[inline(never)]
-unsafe fn plain_whole(t: &Lent, text: &[u8]) -> bool {
+pub unsafe fn plain_whole(t: &Lent, text: &[u8]) -> bool {
     let mut q = t.head;
     for &b in text {
         // SAFETY: q is a row, as the head row and every cell of a well-formed table are, and each row has 256 cells
@@ -40,7 +40,7 @@ unsafe fn plain_whole(t: &Lent, text: &[u8]) -> bool {
 /// # Safety
 /// The table is well formed.
 #[inline(never)]
-unsafe fn plain_longest(t: &Lent, text: &[u8], start: usize) -> Option<usize> {
+pub unsafe fn plain_longest(t: &Lent, text: &[u8], start: usize) -> Option<usize> {
     let mut q = if start == 0 { t.head } else { 0 };
     let mut best = None;
     for p in start..text.len() {
@@ -78,18 +78,20 @@ pub fn race(name: &str, mut proved: impl FnMut(), mut plain: impl FnMut()) {
 
 mod compiling;
 mod finders;
-mod patterns;
+mod meter;
 
 fn main() {
-    let asked: Vec<String> = std::env::args().skip(1).collect();
-    if let [once, name] = &asked[..] {
-        if once == "once" {
-            return compiling::once(name);
-        }
+    let words: Vec<String> = std::env::args().skip(1).collect();
+    let asked: Vec<&str> = words.iter().map(|word| &word[..]).collect();
+    match asked[..] {
+        ["once", rows, line] => return compiling::once(rows, line),
+        ["counted"] => return compiling::counted(None),
+        ["counted", file] => return compiling::counted(Some(file)),
+        _ => (),
     }
     let parts: [(&str, fn()); 3] = [("walks", walks), ("finders", finders::run), ("compiling", compiling::run)];
     for (name, run) in parts {
-        if asked.is_empty() || asked.iter().any(|word| word == name) {
+        if asked.is_empty() || asked.contains(&name) {
             run();
         }
     }
@@ -135,4 +137,5 @@ fn walks() {
             );
         }
     }
+    meter::run();
 }

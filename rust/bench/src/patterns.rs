@@ -1,28 +1,46 @@
 //! Patterns of the trade, and patterns that are bad for one stage or another.
+use compare::large::{bits, ladder, pairs, registers, spelled, windows};
 
 pub struct Pattern {
-    pub name: &'static str,
+    pub name: String,
     pub bytes: Vec<u8>,
 }
 
-fn of(name: &'static str, parts: &[&[u8]]) -> Pattern {
-    Pattern { name, bytes: parts.concat() }
+fn of(name: &str, parts: &[&[u8]]) -> Pattern {
+    Pattern { name: name.to_string(), bytes: parts.concat() }
 }
 
-/// Those that are compiled every day, and those of the sums of docs/RULES.md.
+/// Those that an energy supplier compiles every day.
 pub fn usual() -> Vec<Pattern> {
+    let days = b"20[0-9]{2}-((0[13578]|1[02])-(0[1-9]|[12][0-9]|3[01])|(0[469]|11)-(0[1-9]|[12][0-9]|30)|02-(0[1-9]|[12][0-9]))";
+    let obis = b"[0-9]{1,3}-[0-9]{1,3}:[0-9]{1,3}\\.[0-9]{1,3}\\.[0-9]{1,3}(\\*[0-9]{1,3})?";
+    let moment =
+        b"DTM\\+(137|163|164):20[0-9]{2}(0[1-9]|1[0-2])(0[1-9]|[12][0-9]|3[01])([01][0-9]|2[0-3])[0-5][0-9]\\?\\+0[0-2]:303'";
+    let segments = b"((UNH|BGM|DTM|RFF|NAD|LOC|LIN|PIA|QTY|STS|UNT)(\\+([^'+:?]|\\?.)*(:([^'+:?]|\\?.)*)*)*'\r?\n?)*";
     let supplier = b"^([0-9]{4}-(0[1-9]|1[0-2])-(0[1-9]|[12][0-9]|3[01]));([01][0-9]|2[0-3]):[0-5][0-9];DE[0-9]{11}[0-9A-Z]{20};\
         (-?[0-9]{1,7}(,[0-9]{1,3})?)?;(kWh|MWh|kW);(V|E|W|N)?;[^;\"]*\r?\n?$";
     let columns = b"-?[0-9]*;".repeat(96);
     let literals: Vec<Vec<u8>> = (0..100).map(literal).collect();
     vec![
         of("hours", &[b"0[013-9]|1[0-9]|2[0-3]"]),
+        of("quarter hours", &[b"([01][0-9]|2[0-3]):(00|15|30|45)"]),
+        of("days", &[days]),
+        of("market locations", &[b"[1-9][0-9]{10}"]),
+        of("metering points", &[b"DE[0-9]{11}[0-9A-Z]{20}"]),
+        of("OBIS codes", &[obis]),
+        of("amounts", &[b"-?[0-9]{1,3}(\\.?[0-9]{3}){0,3}(,[0-9]{1,5})?"]),
+        of("status letters of a day", &[b"^([VEWNG]?;){95}[VEWNG]?$"]),
+        of("a moment", &[moment]),
+        of("segments of a message", &[segments]),
         of("a supplier's row", &[supplier]),
         of("96 columns spelled out", &[b"^[0-9]{8};DE[0-9A-Z]{31};", &columns, b"[VEW]?\r?$"]),
         of("100 literals", &[&literals.join(&b'|')]),
-        of("[ab]*a[ab]{8}", &[b"[ab]*a[ab]{8}"]),
-        of("(a{255}){4}", &[b"(a{255}){4}"]),
     ]
+}
+
+/// Those of the sums of docs/RULES.md that have many rows.
+pub fn sums() -> Vec<Pattern> {
+    ["[ab]*a[ab]{8}", "(a{255}){4}"].map(|text| of(text, &[text.as_bytes()])).into()
 }
 
 /// Eight letters.
@@ -37,10 +55,28 @@ fn literal(i: u32) -> Vec<u8> {
         .collect()
 }
 
-/// Bad ones within the limits: many columns, large sets, many rounds of merging, long empty ways.
+/// Bad ones within the limits.
 pub fn worst() -> Vec<Pattern> {
-    let bits: Vec<Vec<u8>> = (0..8).map(bytes_with_bit).collect();
-    let signed = |sign: &[u8]| bits.iter().flat_map(|class| [class, sign].concat()).collect::<Vec<u8>>();
+    [large(), parting()].into_iter().flatten().collect()
+}
+
+/// Rows that part from their classes by many in one round, least row first, or by many and by few in turn.
+fn parting() -> Vec<Pattern> {
+    let all = bits().concat();
+    vec![
+        of("registers 9 8 7 5", &[&registers(&[9, 8, 7, 5], 0)]),
+        of("registers 8 7 8 7 6", &[&registers(&[8, 7, 8, 7, 6], 0)]),
+        of("registers 9 8 7 6 4", &[&registers(&[9, 8, 7, 6, 4], 0)]),
+        of("registers 9 8 7 6 4, empty ways", &[&registers(&[9, 8, 7, 6, 4], 160)]),
+        of("a ladder", &[&ladder(30, 6)]),
+        of("pairs of bytes, 256 columns", &[&pairs(26, 13), b"|", &all]),
+        of("windows and chains, 256 columns", &[&windows(1, 25, 32), b"|", &all]),
+    ]
+}
+
+/// Many columns, large sets, many rounds of merging, long empty ways.
+pub fn large() -> Vec<Pattern> {
+    let signed = |sign: &[u8]| bits().iter().flat_map(|class| [class, sign].concat()).collect::<Vec<u8>>();
     let (all, maybe, star) = (signed(b""), signed(b"?"), signed(b"*"));
     let letters: Vec<Vec<u8>> = (1..=255).filter(|&b| b != b'\n').map(spelled).collect();
     let up = letters.concat();
@@ -66,30 +102,4 @@ pub fn worst() -> Vec<Pattern> {
         of("counts in counts", &[b"(b?b?(b?b(b{3,5}){11})){3,11}b{5}|", &all]),
         of("spelled out", &[&up.repeat(3)]),
     ]
-}
-
-/// The class of the bytes that have a bit.
-fn bytes_with_bit(k: usize) -> Vec<u8> {
-    let member = |b: usize| if b"[]\\-^".contains(&(b as u8)) { vec![b'\\', b as u8] } else { vec![b as u8] };
-    let mut class = b"[".to_vec();
-    for lo in (1 << k..256).step_by(2 << k) {
-        let hi = lo + (1 << k) - 1;
-        class.extend(member(lo));
-        if hi > lo + 1 {
-            class.push(b'-');
-        }
-        if hi > lo {
-            class.extend(member(hi));
-        }
-    }
-    class.push(b']');
-    class
-}
-
-fn spelled(b: u8) -> Vec<u8> {
-    if b".[]()|*+?{}^$\\".contains(&b) {
-        vec![b'\\', b]
-    } else {
-        vec![b]
-    }
 }

@@ -1,6 +1,7 @@
 //! Random patterns compiled in lent room of any size with something in it, against `paper`; then the listing and the four
 //! matchers over the compiled table, against the pattern's meaning.
 use crate::patterns::pattern;
+use crate::room::Room;
 use crate::Random;
 use jorvimest::{compile_into, Lent, Table, Text};
 use paper::pattern::Tree;
@@ -42,13 +43,6 @@ pub fn compare(cases: u32, seed: u64) -> Tally {
     tally
 }
 
-#[derive(Clone)]
-struct Room {
-    cells: Vec<u16>,
-    marks: Vec<u8>,
-    sets: Vec<u64>,
-}
-
 /// Room for about as many rows as are needed, or for any number of them; one part of it is the least, by a little or a lot.
 fn room(random: &mut Random, needed: usize) -> Room {
     let rows = match random.below(40) {
@@ -81,8 +75,7 @@ fn compare_in(room: &mut Room, pattern: &[u8], drawn: &Result<(paper::Table, usi
         Err(refused) => Err(*refused),
     };
     let mut other = room.clone();
-    let model = model::compile(pattern, &mut other.cells, &mut other.marks, &mut other.sets);
-    assert_eq!(model, due.map(|t| (t.rows as u16, t.head as u16)), "the model, {name}, K {k}");
+    assert_eq!(other.model(pattern), due.map(|t| (t.rows as u16, t.head as u16)), "the model, {name}, K {k}");
     check_room(&other, due.ok(), &format!("the model, {name}, K {k}"));
 
     let found = compile_into(pattern, &mut room.cells, &mut room.marks, &mut room.sets);

@@ -2,8 +2,10 @@
 //! makes the same cases.
 
 pub mod compiling;
+pub mod large;
 pub mod patterns;
 pub mod readings;
+pub mod room;
 pub mod tables;
 
 /// Numbers that look random: xorshift.

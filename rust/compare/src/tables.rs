@@ -1,8 +1,11 @@
-//! Random tables, some of them damaged, and short texts over few letters.
+//! Random tables, some of them damaged, and texts over few letters, most of them short.
 use crate::Random;
 use jorvimest::Lent;
 use jorvimest::Refusal;
 use paper::find;
+
+/// What texts are of: the first bytes of this, among them the first and the last byte there is.
+const LETTERS: [u8; 4] = [97, 255, 0, 98];
 
 /// A table of few rows most of the time, so that matches end, go on and begin again; with something past it, or damaged.
 struct Made {
@@ -25,6 +28,10 @@ fn table(random: &mut Random) -> Made {
         cells: (0..256 * rows as usize + past).map(|_| random.below(rows as u64) as u16).collect(),
         marks: (0..rows as usize + past).map(|_| random.one_of(&[0, 0, 0, 2, 3])).collect(),
     };
+    if random.below(3) == 0 {
+        let q = random.below(rows as u64) as usize;
+        keep_in(&mut made.cells[256 * q..256 * q + 256], q as u16, random);
+    }
     match random.below(12) {
         0 => made.rows = random.one_of(&[0, 1025, 65535, rows + 1]),
         1 => made.head = random.one_of(&[rows, 65535]),
@@ -43,6 +50,24 @@ fn table(random: &mut Random) -> Made {
     made
 }
 
+/// A row that no byte leaves, or one letter alone.
+fn keep_in(cells: &mut [u16], q: u16, random: &mut Random) {
+    let other = cells[0];
+    cells.fill(q);
+    if random.below(2) == 0 {
+        cells[random.one_of(&LETTERS) as usize] = other;
+    }
+}
+
+/// Short most of the time; at times over the limit, or long enough that reading stops in a row that no byte leaves.
+fn length(random: &mut Random) -> usize {
+    match random.below(20_000) {
+        0 => 1_048_577,
+        1..=1999 => 230 + random.below(330) as usize,
+        _ => random.below(20) as usize,
+    }
+}
+
 /// A start in the text, or past its end by a little or by so much that 32 bits do not hold it.
 fn start(random: &mut Random, length: usize) -> usize {
     let near = random.below(length as u64 + 3) as usize;
@@ -58,9 +83,9 @@ pub fn compare(cases: u32, seed: u64) -> (u32, u32) {
     let (mut refused, mut found) = (0, 0);
     for case in 0..cases {
         let made = table(&mut random);
-        let length = if random.below(20_000) == 0 { 1_048_577 } else { random.below(20) as usize };
-        let letters = 1 + random.below(4);
-        let text: Vec<u8> = (0..length).map(|_| (97 + random.below(letters)) as u8).collect();
+        let length = length(&mut random);
+        let letters = &LETTERS[..1 + random.below(4) as usize];
+        let text: Vec<u8> = (0..length).map(|_| random.one_of(letters)).collect();
         let start = start(&mut random, length);
         let name = format!("seed {seed}, case {case}");
 

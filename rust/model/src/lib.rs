@@ -6,6 +6,8 @@ mod nodes;
 mod pattern;
 mod rows;
 
+use std::ops::Range;
+
 /// A refusal: number and place.
 pub type Refused = (u32, u32);
 
@@ -28,6 +30,12 @@ fn draw(pattern: &[u8], cells: &mut [u16], marks: &mut [u8], sets: &mut [u64]) -
     let columns = pattern::columns(&program.sets);
     let count = rows::list(&nodes, &program.sets, &columns, cells, marks, sets).ok_or((11, 0))?;
     Ok(merge::merge(&mut cells[..256 * count], &mut marks[..count], sets, &columns))
+}
+
+/// The bytes of each column, from its first byte to that of the next.
+fn spans(columns: &[u8]) -> impl Iterator<Item = Range<usize>> + '_ {
+    let ends = columns.iter().skip(1).map(|&b| b as usize).chain([256]);
+    columns.iter().zip(ends).map(|(&first, end)| first as usize..end)
 }
 
 /// Whether a set in words has a member.

@@ -1,28 +1,23 @@
--- `draw`: the pattern is turned away, or its program is drawn.
+-- `draw`: the pattern is short, or takes the longer room.
 use borrow.Author.Needs.{needs}
-use Rattle.compile.proofs.StageLaws.{pattern-refused, program-whole, program-drawn}
+use native.Mathlib.Omega.{arith}
 use Rattle.compile.proofs.draw.Statement.{statement}
 use Rattle.compile.proofs.draw.Tie as tie
 
-draw-program-requires : tie.Need-draw-program-requires
-draw-program-requires c κs = program-whole (rw (c .before .before .before .before .before .len .given .1) at (c .before .before .before .before .before .before .before .read-pattern .ensures))
-
-returns : tie.Need-returns
-returns c = pattern-refused (c .before .before .before .before .before .before .before .before .before .args .pattern .now) (rw (c .before .r .given .1) at (c .before .before .before .read-pattern .ensures))
-
-returns-2 : tie.Need-returns-2
-returns-2 c = program-drawn (rw (c .before .before .before .before .before .before .before .before .before .before .before .before .len .given .1) at (c .before .before .before .before .before .before .before .before .before .before .before .before .before .before .read-pattern .ensures)) (c .before .before .before .before .before .before .draw-program .ensures)
+draw-short-requires : tie.Need-draw-short-requires
+draw-short-requires c κs = let I : tie.Then1 = search needs in omega (arith, I .if1 .taken)
 
 pub draw-spec : {M : Type 1} → statement M
 draw-spec =
     tie.close
     (tie.spec
+    draw-short-requires
+    (λ c. search needs)
+    (λ c. search needs)
+    (λ c. search needs)
+    (λ c. search needs)
     (λ c κs. search needs)
     (λ c. search needs)
     (λ c. search needs)
-    draw-program-requires
-    returns
     (λ c. search needs)
-    (λ c. search needs)
-    (λ c. search needs)
-    returns-2)
+    (λ c. search needs))

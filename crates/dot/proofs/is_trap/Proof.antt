@@ -1,8 +1,10 @@
 -- `is_trap`
 use borrow.Author.Needs.{needs}
-use mathlib.Core.Path.{sym, ap, _∙_}
-use Prim.Native.Nat.{_+_, _*_}
+use mathlib.Core.Path.{_≡_, sym, ap, _∙_}
+use Prim.Native.Nat.{ℕ, _+_, _*_, _-_}
+use native.Mathlib.Omega.{arith}
 use lib.Dec.{eqb}
+use lib.ListN.{take, drop}
 use Rattle.rules.specs.Tools.{all}
 use Rattle.rules.specs.Table.{Table}
 use Rattle.table.specs.Lent.{tableOf}
@@ -31,9 +33,15 @@ returns-3 c =
 
 returns-4 : tie.Need-returns-4
 returns-4 c =
-    let s = c .before .before .before .before .before .before .before .before .before .before .before .before .before in
-    c .all-to .ensures ∙ ap (all (λ x. eqb x (s .args .q .0))) (part-slice (256 * s .args .q .0) (256 * s .args .q .0 + 256) (s .args .cells .now))
-    ∙ sym (trap-by-cells (table s) (s .args .q .0) (c .before .before .before .before .before .before .before .before .before .if1 .left) (c .before .before .before .before .before .before .if2 .left) (sym (c .before .before .before .ends-here .ensures) ∙ c .before .before .if3 .left))
+    let E = c .before in
+    let s = E .before .before .before .before .before .before .before .before .before .before .before in
+    let q = s .args .q .0 in
+    let e : 256 ≡ 256 * q + 256 - 256 * q = omega arith in
+    c .no-byte-leaves .ensures
+    ∙ ap (λ (n : ℕ). all (λ x. eqb x q) (take n (drop (256 * q) (s .args .cells .now)))) e
+    ∙ ap (all (λ x. eqb x q)) (part-slice (256 * q) (256 * q + 256) (s .args .cells .now))
+    ∙ sym
+    (trap-by-cells (table s) q (E .before .before .before .before .before .before .before .if1 .left) (E .before .before .before .before .if2 .left) (sym (E .before .ends-here .ensures) ∙ E .if3 .left))
 
 pub is-trap-spec : {M : Type 1} → statement M
 is-trap-spec =
@@ -45,12 +53,5 @@ is-trap-spec =
     (λ c. search needs)
     (λ c κs. search needs)
     returns-3
-    (λ c. search needs)
-    (λ c. search needs)
-    (λ c. search needs)
-    (λ c. search needs)
-    (λ c. search needs)
-    (λ c. search needs)
-    (λ c. search needs)
     (λ c κs. search needs)
     returns-4)

@@ -1,6 +1,6 @@
 use mathlib.Core.Path.{_∙_, ap}
 use Prim.Native.Nat.{ℕ, _+_, _*_}
-use Rattle.known.proofs.Buckets.{mixed-past, mixed-word}
+use Rattle.known.proofs.Mixed.{mixed-past, mixed-word}
 use borrow.Author.Needs.{needs}
 use Rattle.known.proofs.mix_in.Statement.{statement}
 use Rattle.known.proofs.mix_in.Tie as tie

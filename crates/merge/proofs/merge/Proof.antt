@@ -3,7 +3,7 @@ use mathlib.Core.Path.{sym}
 use Prim.Native.Nat.{_*_}
 use native.Mathlib.Omega.{arith}
 use lib.Seq.{length-take-le, length-front}
-use Rattle.parting.specs.Dirty.{rowWords}
+use Rattle.grid.specs.Rows.{rowWords}
 use Rattle.merge.proofs.FrontLaws.{zeros-front, front-grid, front-room, front-stands}
 use Rattle.merge.proofs.merge.Statement.{statement}
 use Rattle.merge.proofs.merge.Tie as tie
@@ -58,8 +58,8 @@ slice-aggregate-merge-all-4 c =
     let S = c .before .before .before .before .before .before .before in
     sym (zeros-front (S .args .rows) (S .pre .few))
 
-array-borrow-prefix-next : tie.Need-array-borrow-prefix-next
-array-borrow-prefix-next c =
+array-borrow-prefix-number : tie.Need-array-borrow-prefix-number
+array-borrow-prefix-number c =
     let S = c .before .before .before .before .before .before .before in
     S .pre .few
 
@@ -68,8 +68,8 @@ slice-aggregate-merge-all-5 c =
     let S = c .before .before .before .before .before .before .before .before in
     sym (zeros-front (S .args .rows) (S .pre .few))
 
-array-borrow-prefix-parted : tie.Need-array-borrow-prefix-parted
-array-borrow-prefix-parted c =
+array-borrow-prefix-order : tie.Need-array-borrow-prefix-order
+array-borrow-prefix-order c =
     let S = c .before .before .before .before .before .before .before .before in
     S .pre .few
 
@@ -114,9 +114,9 @@ merge-spec =
     slice-aggregate-merge-all-3
     array-borrow-prefix-class
     slice-aggregate-merge-all-4
-    array-borrow-prefix-next
+    array-borrow-prefix-number
     slice-aggregate-merge-all-5
-    array-borrow-prefix-parted
+    array-borrow-prefix-order
     slice-aggregate-merge-all-6
     (λ c. search needs)
     merge-all-requires

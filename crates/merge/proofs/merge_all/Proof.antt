@@ -1,7 +1,7 @@
 use mathlib.Core.Path.{sym, refl, _∙_}
 use native.Mathlib.Omega.{arith}
 use lib.ListN.{length}
-use Rattle.parting.proofs.ClassLaws.{rows-in}
+use Rattle.grid.proofs.GridLaws.{rows-in}
 use Rattle.merge.proofs.StandLaws.{two-rows, class-long, class-names, table-stands}
 use Rattle.merge.proofs.merge_all.Statement.{statement}
 use Rattle.merge.proofs.merge_all.Tie as tie
@@ -18,7 +18,7 @@ give-requires c κs =
       class-names (S .args .cells .now) n (S .pre .0) (c .before .before .before .before .before .before .before .before .before .before .before .before .name .ensures),
       (
         omega (arith, class-long (S .args .cells .now) n (S .pre .0) (c .before .before .before .before .before .before .before .before .before .before .before .before .name .ensures), S .pre .1 .few),
-        omega (arith, class-long (S .args .cells .now) n (S .pre .0) (c .before .before .before .before .before .before .before .before .before .before .before .before .name .ensures), c .before .before .before .before .before .before .before .before .before .before .before .before .name .kept .1 .1 .1 .1 .0, S .pre .1 .next-long),
+        omega (arith, class-long (S .args .cells .now) n (S .pre .0) (c .before .before .before .before .before .before .before .before .before .before .before .before .name .ensures), c .before .before .before .before .before .before .before .before .before .before .before .before .name .kept .1 .1 .1 .1 .0, S .pre .1 .number-long),
       ),
     )
 

@@ -15,30 +15,64 @@ abbrev as-answer : answers.Refusal → Answer Tree
 as-answer r = refused r
 
 returns : tie.Need-returns
-returns c = answer-long (c .before .before .args .pattern .now) (c .if1 .taken)
+returns c = let S : tie.Start = search needs in answer-long (S .args .pattern .now) (c .if1 .taken)
+
+read-branches-requires : tie.Need-read-branches-requires
+read-branches-requires c κs =
+    let S : tie.Start = search needs in
+    let E : tie.Else1 = search needs in
+    record { within = omega arith; short = E .if1 .left; groups = omega arith; room = omega (arith, S .pre .enough (E .if1 .left)) }
 
 cast-reading : tie.Need-cast-reading
-cast-reading c = let t = says-turned (c .before .before .before .before .before .before .before .args .pattern .now) (rw (c .before .number .given .1) at (c .before .before .before .read-branches .ensures)) in omega (arith, refusal-place t)
+cast-reading c =
+    let S : tie.Start = search needs in
+    let N : tie.After-number = search needs in
+    let R : tie.After-read-branches = search needs in
+    let t = says-turned (S .args .pattern .now) (rw (N .number .given .1) at (R .read-branches .ensures)) in
+    omega (arith, refusal-place t)
 
 reading-requires : tie.Need-reading-requires
-reading-requires c κs = refusal-number (says-turned (c .before .before .before .before .before .before .before .args .pattern .now) (rw (c .before .number .given .1) at (c .before .before .before .read-branches .ensures)))
+reading-requires c κs =
+    let S : tie.Start = search needs in
+    let N : tie.After-number = search needs in
+    let R : tie.After-read-branches = search needs in
+    refusal-number (says-turned (S .args .pattern .now) (rw (N .number .given .1) at (R .read-branches .ensures)))
 
 returns-2 : tie.Need-returns-2
-returns-2 c = let d = rw (c .before .n .given .1) at (c .before .before .before .read-branches .ensures) in
-    record { tree = d .tree; is = answer-legal (c .before .before .before .before .before .before .before .args .pattern .now) (c .before .before .before .before .before .if1 .left) (says-legal (c .before .before .before .before .before .before .before .args .pattern .now) (d .says)); program = d .wrote; fits = omega arith }
+returns-2 c =
+    let S : tie.Start = search needs in
+    let E : tie.Else1 = search needs in
+    let N : tie.After-n = search needs in
+    let R : tie.After-read-branches = search needs in
+    let d = rw (N .n .given .1) at (R .read-branches .ensures) in
+    record {
+      tree = d .tree;
+      is = answer-legal (S .args .pattern .now) (E .if1 .left) (says-legal (S .args .pattern .now) (d .says));
+      program = d .wrote;
+      fits = omega (arith, d .room, S .pre .enough (E .if1 .left));
+      short = omega (arith, d .room, E .if1 .left);
+    }
 
 returns-3 : tie.Need-returns-3
-returns-3 c = answer-turned (c .before .before .before .before .before .before .before .before .args .pattern .now) (c .before .before .before .before .before .before .if1 .left) (says-turned (c .before .before .before .before .before .before .before .before .args .pattern .now) (rw (c .before .before .number .given .1) at (c .before .before .before .before .read-branches .ensures))) ∙ ap as-answer (sym (c .reading .ensures))
+returns-3 c =
+    let S : tie.Start = search needs in
+    let E : tie.Else1 = search needs in
+    let N : tie.After-number = search needs in
+    let R : tie.After-read-branches = search needs in
+    let t = says-turned (S .args .pattern .now) (rw (N .number .given .1) at (R .read-branches .ensures)) in
+    answer-turned (S .args .pattern .now) (E .if1 .left) t ∙ ap as-answer (sym (c .reading .ensures))
 
 pub read-pattern-spec : {M : Type 1} → statement M
 read-pattern-spec =
     tie.close
     (tie.spec
     returns
-    (λ c κs. search needs)
+    read-branches-requires
     (λ c. search needs)
     (λ c. search needs)
     cast-reading
     reading-requires
+    (λ c. search needs)
     returns-2
+    (λ c. search needs)
     returns-3)

@@ -3,22 +3,21 @@ use mathlib.Core.Path.{ap, _∙_}
 use mathlib.Core.List.{List}
 use Prim.Native.Nat.{ℕ}
 use lib.ListN.{length, getD, length-replicate}
-use Rattle.runs.proofs.Masks.{runs-are}
+use Rattle.runs.proofs.Masks.{parted-into}
 use Rattle.runs.proofs.make_runs.Statement.{statement}
 use Rattle.runs.proofs.make_runs.Tie as tie
 
 list-runs-requires : tie.Need-list-runs-requires
 list-runs-requires c κs =
-    let P = c .before .before .before in
-    let S = P .before .before .before .before .before .before .before in
-    (ap length (S .pre .0) ∙ length-replicate {A = ℕ} 257 0, (ap (λ (xs : List ℕ). getD xs 0 0) (S .pre .0), P .part-bytes .ensures .0))
+    let part-bytes = c .before .before .before .part-bytes in
+    let pre = c .before .before .before .before .before .before .before .before .before .pre in
+    (ap length (pre .0) ∙ length-replicate {A = ℕ} 257 0, (ap (λ (xs : List ℕ). getD xs 0 0) (pre .0), part-bytes .ensures .0))
 
 returns : tie.Need-returns
 returns c =
-    let N = c .before .before in
-    let L = N .before .before .before .before .before in
-    let P = L .before .before .before .before in
-    runs-are _ (L .list-runs .ensures .0) (L .list-runs .ensures .1) (P .part-bytes .ensures .1) (N .put-nodes .ensures .0) (N .put-nodes .ensures .1)
+    let list-runs = c .before .before .list-runs in
+    let part-bytes = c .before .before .before .before .before .before .part-bytes in
+    parted-into _ (list-runs .ensures .0) (list-runs .ensures .1) (part-bytes .ensures .1)
 
 pub make-runs-spec : {M : Type 1} → statement M
 make-runs-spec =
@@ -28,7 +27,5 @@ make-runs-spec =
     (λ c κs. search needs)
     (λ c. search needs)
     list-runs-requires
-    (λ c κs. search needs)
-    (λ c. search needs)
     (λ c. search needs)
     returns)

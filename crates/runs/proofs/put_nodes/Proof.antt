@@ -1,17 +1,16 @@
 use borrow.Author.Needs.{needs}
-use mathlib.Core.Path.{_≡_, ap, _∙_}
+use mathlib.Core.Path.{_≡_, _∙_}
 use mathlib.Core.Logic.{⊎-elim}
-use Prim.Native.Nat.{ℕ, _-_, _*_, _≤_}
+use Prim.Native.Nat.{_-_, _≤_}
 use native.Mathlib.Omega.{arith}
-use lib.ListN.{length, length-replicate}
-use Rattle.rules.specs.Sizes.{wordsARow}
+use lib.ListN.{length}
 use Rattle.runs.specs.Runs.{MaskedTo}
-use Rattle.runs.proofs.Masks.{masked-none, masked-in, masked-out}
+use Rattle.runs.proofs.Masks.{masked-none, masked-in, masked-out, runs-are}
 use Rattle.runs.proofs.put_nodes.Statement.{statement}
 use Rattle.runs.proofs.put_nodes.Tie as tie
 
 abbrev Inv-loop : tie.InvT-loop
-Inv-loop masks₀ program kind atom starts runs u₀ masks u = (u ≤ length kind) × ((length masks ≡ wordsARow * 256) × MaskedTo u program kind atom starts masks runs)
+Inv-loop masks₀ program kind atom starts runs u₀ masks u = (u ≤ length kind) × ((length masks ≡ length masks₀) × MaskedTo u program kind atom starts masks runs)
 
 abbrev μ-loop : tie.MeasureT-loop
 μ-loop masks₀ program kind atom starts runs u₀ masks u = length kind - u
@@ -19,7 +18,7 @@ abbrev μ-loop : tie.MeasureT-loop
 loop-holds : tie.Need-loop-holds Inv-loop μ-loop
 loop-holds c =
     let S = c .before .before .before .before .before in
-    (search needs, (ap length (S .pre .0) ∙ length-replicate {A = ℕ} (wordsARow * 256) 0, masked-none (S .args .program .now) (S .args .kind .now) (S .args .atom .now) (S .args .starts .now) (S .args .runs) (wordsARow * 256) (S .pre .0)))
+    (search needs, (search needs, masked-none (S .args .program .now) (S .args .kind .now) (S .args .atom .now) (S .args .starts .now) (S .args .runs) (length (S .args .masks .now)) (S .pre .0)))
 
 shared-slice-read-if1 : tie.Need-shared-slice-read-if1 Inv-loop μ-loop
 shared-slice-read-if1 c = search needs
@@ -39,7 +38,7 @@ atom-set-requires : tie.Need-atom-set-requires Inv-loop μ-loop
 atom-set-requires c κs =
     let L = c .before .before .before .before .before in
     let S = L .before .before .before .before .before .before in
-    S .pre .1 .0 .are (L .loop .u) (search needs) (c .before .before .if1 .taken)
+    S .pre .1 .1 .0 .are (L .loop .u) (search needs) (c .before .before .if1 .taken)
 
 cast-t20 : tie.Need-cast-t20 Inv-loop μ-loop
 cast-t20 c = search needs
@@ -48,7 +47,7 @@ put-node-requires : tie.Need-put-node-requires Inv-loop μ-loop
 put-node-requires c κs =
     let L = c .before .before .before .before .before .before in
     let S = L .before .before .before .before .before .before in
-    (L .loop .inv .1 .0, (omega (arith, S .pre .1 .0 .few), S .pre .1 .1))
+    (omega (arith, S .pre .1 .0, L .loop .inv .1 .0), (omega (arith, S .pre .1 .1 .0 .few), S .pre .1 .1 .1 .are))
 
 add-u : tie.Need-add-u Inv-loop μ-loop
 add-u c = search needs
@@ -69,14 +68,14 @@ same-length : tie.Need-same-length Inv-loop μ-loop
 same-length c =
     let L = c .before in
     let S = L .before .before .before .before .before .before in
-    omega (arith, L .loop .inv .1 .0, ap length (S .pre .0), length-replicate {A = ℕ} (wordsARow * 256) 0)
+    L .loop .inv .1 .0
 
 returns : tie.Need-returns Inv-loop μ-loop
 returns c =
     let L = c .before in
     let S = L .before .before .before .before .before .before in
     let e : L .loop .u ≡ length (S .args .kind .now) = omega arith in
-    (L .loop .inv .1 .0, λ k v l. rw e at (L .loop .inv .1 .1 k v l))
+    runs-are (S .pre .1 .1 .1) (omega (arith, S .pre .1 .0, L .loop .inv .1 .0)) (λ k v l. rw e at (L .loop .inv .1 .1 k v l))
 
 pub put-nodes-spec : {M : Type 1} → statement M
 put-nodes-spec =

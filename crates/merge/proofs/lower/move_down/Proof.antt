@@ -3,7 +3,7 @@ use mathlib.Core.Logic.{⊎-elim}
 use Prim.Native.Nat.{_+_, _*_, _-_}
 use native.Mathlib.Omega.{arith}
 use lib.ListN.{length}
-use Rattle.round.proofs.RoundLaws.{cell-in}
+use Rattle.grid.proofs.GridLaws.{cell-in}
 use Rattle.merge.proofs.NumberLaws.{Down, down-none, count-le, down-skip, down-move}
 use Rattle.merge.proofs.lower.move_down.Statement.{statement}
 use Rattle.merge.proofs.lower.move_down.Tie as tie

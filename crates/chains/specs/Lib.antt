@@ -1,0 +1,2 @@
+-- groups of rows in chains
+pub mod Chains

@@ -1,0 +1,2 @@
+-- classes cut by groups of rows
+pub mod Cutting

@@ -1,0 +1,3 @@
+// The rows that lead to each row, and those that lead to a class that waits.
+pub mod preds;
+pub mod touched;

@@ -1,0 +1,2 @@
+-- rows sorted into groups by their marks
+pub mod Marks

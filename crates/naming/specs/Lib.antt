@@ -1,0 +1,2 @@
+-- classes named by their least rows
+pub mod Naming

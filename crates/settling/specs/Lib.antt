@@ -1,0 +1,2 @@
+-- what the rounds are given and leave
+pub mod Settling

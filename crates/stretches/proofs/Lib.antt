@@ -1,0 +1,4 @@
+pub mod ListLaws
+pub mod SwapLaws
+pub mod StretchLaws
+pub mod CutLaws

@@ -1,0 +1,2 @@
+-- rows in a list, and classes as stretches of it
+pub mod Stretches

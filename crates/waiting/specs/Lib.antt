@@ -1,0 +1,2 @@
+-- what a round leaves
+pub mod Refined

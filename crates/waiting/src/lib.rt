@@ -1,0 +1,1 @@
+// Why classes that are cut only by what leads to waiting classes end as those of the rules; no code.
