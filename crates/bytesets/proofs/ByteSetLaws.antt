@@ -175,6 +175,7 @@ all-lt b (suc n) lo m h l = all-lt b n (suc lo) (with m lo) (omega arith) (with-
 
 true-is : (b : Bool) → T b → b ≡ true
 true-is true h = refl
+true-is false h = elim h [ ]
 
 either-test : (a b : Bool) → T (a || b) → T a ⊎ T b
 either-test true b h = inl h
@@ -182,6 +183,7 @@ either-test false b h = inr h
 
 pub left-test : (a b : Bool) → T a → T (a || b)
 left-test true b h = tt
+left-test false b h = elim h [ ]
 
 pub right-test : (a b : Bool) → T b → T (a || b)
 right-test true b h = tt

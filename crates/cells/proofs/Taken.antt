@@ -74,7 +74,7 @@ module _ {w : Machine} (ok : Neat w) where
         out zero h = absurd (twice-zero A h)
         out (suc u) h = let (k, (x, i, t, e)) = (a.just u).0 (rw (twice_has A u) at h) in
             subst (λ (v : ℕ). T (has (across (on_byte b) w.links r.nodes 0) v)) (ok.up x i (byte-kind b x.on t) ∙ ap suc e)
-            (across-adds (on_byte b) r.nodes w.links 0 x i t (subst (λ (u : ℕ). T (has r.nodes u)) (sym e) k))
+            (across-adds (on_byte b) r.nodes x w.links 0 i t (subst (λ (u : ℕ). T (has r.nodes u)) (sym e) k))
 
     pub next-taken : next w r b ≡ row_of w A
     unfolding next

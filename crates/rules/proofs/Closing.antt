@@ -53,11 +53,11 @@ module _ (c : Kind → Bool) (m : ℕ) where
   across_lt n es acc below = across-by (λ z. z < 2 ^ n) es acc (λ x h t a. with-lt a x.to n (below x h))
 
   -- the targets are across
-  pub across-adds : (es : List Edge) (acc : ℕ) (x : Edge) → x ∈ es → T (c x.on) → T (has m x.from) → T (has (across c es m acc) x.to)
-  across-adds es acc x (first {x = y} {xs} e) hc hm = across-case (λ z. T (has z x.to)) y xs acc
+  pub across-adds : (x : Edge) (es : List Edge) (acc : ℕ) → x ∈ es → T (c x.on) → T (has m x.from) → T (has (across c es m acc) x.to)
+  across-adds x es acc (first {x = y} {xs} e) hc hm = across-case (λ z. T (has z x.to)) y xs acc
       (λ t. across-keeps xs (with acc y.to) x.to (rw e (with-has acc y.to))) (λ n. absurd (n (rw (← e) (both (c x.on) (has m x.from) hc hm))))
-  across-adds es acc x (later {x = y} {xs} h) hc hm = across-case (λ z. T (has z x.to)) y xs acc
-      (λ t. across-adds xs (with acc y.to) x h hc hm) (λ n. across-adds xs acc x h hc hm)
+  across-adds x es acc (later {x = y} {xs} h) hc hm = across-case (λ z. T (has z x.to)) y xs acc
+      (λ t. across-adds x xs (with acc y.to) h hc hm) (λ n. across-adds x xs acc h hc hm)
 
   -- and nothing else but what was there
   pub across-ind : (C : ℕ → Type 0) (es : List Edge) (acc : ℕ) → All (λ x. T (c x.on) → T (has m x.from) → C x.to) es
@@ -107,7 +107,7 @@ module _ (w : Machine) (below : Below w) (c : Kind → Bool) (m : ℕ) (small : 
   pub closed-full : All (Carries c (λ v. T (has (closure w c m) v))) w.links
   closed-full x h hc hu =
       subst (λ (z : ℕ). T (has z x.to)) (closed-stops c w.links w.count (2 ^ w.count) m below small (omega arith))
-      (across-adds c (closure w c m) w.links (closure w c m) x h hc hu)
+      (across-adds c (closure w c m) x w.links (closure w c m) h hc hu)
 
   -- however a set is made: if it has m, is closed, and has nothing that is not reached from m, it is the closed set
   pub closed-only : (x : ℕ) → x < 2 ^ w.count → ((v : ℕ) → T (has m v) → T (has x v)) → All (Carries c (λ v. T (has x v))) w.links

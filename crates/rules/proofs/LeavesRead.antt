@@ -213,6 +213,7 @@ name-complete (later (later (later this))) = refl
 name-complete (later (later (later (later this)))) = refl
 name-complete (later (later (later (later (later this))))) = refl
 name-complete (later (later (later (later (later (later this)))))) = refl
+name-complete (later (later (later (later (later (later (later x))))))) = elim x [ ]
 
 name-sound : (xs : List (List ℕ × List ℕ)) (s : List ℕ) {bs u : List ℕ} → named_class xs s ≡ some (bs, u) → Name xs s bs u
 unfolding named_class
@@ -296,8 +297,8 @@ unfolding items
 items-complete zero (last i) l = absurd (omega (arith, item-shorter i))
 items-complete (suc f) (last i) l = simp (item-complete i refl)
 items-complete zero (next i r) l = absurd (omega (arith, item-shorter i))
-items-complete (suc f) (next i r) l =
-    simp (item-complete i (no-past 45 (items-begin r) (λ h. h.0 refl)), no-past 93 (items-begin r) (λ h. h.1 refl), items-complete f r (omega (arith, item-shorter i)))
+items-complete {s = s} {u = u} {B = B} {C = C} (suc f) (next {bs = bs} {t = t} i r) l =
+    simp (item-complete i (no-past 45 (items-begin r) (λ h. h.0 refl)), no-past 93 (items-begin r) (λ h. h.1 refl), items-complete {s = t} f r (omega (arith, item-shorter i)))
 
 items-sound : (f B : ℕ) (s : List ℕ) {u : List ℕ} {C : ℕ} → items f B s ≡ some (C, u) → Items B s C u
 unfolding items

@@ -195,7 +195,7 @@ module _ (w : Machine) (below : Below w) (small : 1 < 2 ^ w.count) (t : List ℕ
         omega arith,
         holds_more w (row_at (suc p)) (at_end (suc p)) x.to
             (rw (row_next p k.0 y.1) (closed-keeps w on_empty (across (on_byte (get_or t p 0)) w.links (row_at p).nodes 0) x.to
-            (across-adds (on_byte (get_or t p 0)) (row_at p).nodes w.links 0 x h y.2 (before (at_end p) (λ n. omega (arith, eqb→eq p (length t) n)) k.2)))),
+            (across-adds (on_byte (get_or t p 0)) (row_at p).nodes x w.links 0 h y.2 (before (at_end p) (λ n. omega (arith, eqb→eq p (length t) n)) k.2)))),
       )
 
   begin-held : s ≤ length t → Held 0 s

@@ -1,0 +1,16 @@
+use borrow.Author.Tests.{ne_eqb}
+use Rattle.rules.specs.Tools.{find}
+use Rattle.bytesets.proofs.ByteSet.word.Goals as goal
+
+-- `word`
+pub returns-in-0 : goal.returns-in-0
+returns-in-0 c = rw c.in-0.is
+
+pub returns-in-1 : goal.returns-in-1
+returns-in-1 c = rw c.in-1.is
+
+pub returns-in-2 : goal.returns-in-2
+returns-in-2 c = rw c.in-2.is
+
+pub returns-in_default : goal.returns-in_default
+returns-in_default c = let n = c.in_default.in_default-own.rest in rw (find, ne_eqb c.args.k 0 c.in_default.in_default-own.rest.0.0.1, ne_eqb c.args.k 1 c.in_default.in_default-own.rest.0.1, ne_eqb c.args.k 2 c.in_default.in_default-own.rest.1)

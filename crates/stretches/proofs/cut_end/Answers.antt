@@ -1,0 +1,62 @@
+use borrow.Author.Rules.{rules}
+use native.Mathlib.Omega.{arith}
+use lib.ListN.{length-set}
+use Rattle.stretches.proofs.StretchLaws.{fits, once-of}
+use Rattle.stretches.proofs.CutLaws.{end-cut}
+use Rattle.stretches.proofs.cut_end.Goals as goal
+
+pub offset_bounds-end-c : goal.offset_bounds-end-c
+offset_bounds-end-c c =
+    omega (arith, fits c.requires.0 c.requires.1)
+
+pub bounds-end-c : goal.bounds-end-c
+bounds-end-c c =
+    omega (arith, fits c.requires.0 c.requires.1)
+
+pub overflow_cast-end : goal.overflow_cast-end
+overflow_cast-end c =
+    omega (arith, fits c.requires.0 c.requires.1)
+
+pub offset_bounds-end-c-2 : goal.offset_bounds-end-c-2
+offset_bounds-end-c-2 c =
+    omega (arith, fits c.requires.0 c.requires.1)
+
+pub bounds-end-c-2 : goal.bounds-end-c-2
+bounds-end-c-2 c =
+    omega (arith, fits c.requires.0 c.requires.1)
+
+pub overflow_cast-start : goal.overflow_cast-start
+overflow_cast-start c =
+    omega (arith, fits c.requires.0 c.requires.1)
+
+pub offset_bounds-start-many : goal.offset_bounds-start-many
+offset_bounds-start-many c =
+    omega (arith, fits c.requires.0 c.requires.1)
+
+pub bounds-start-many : goal.bounds-start-many
+bounds-start-many c =
+    omega (arith, fits c.requires.0 c.requires.1)
+
+pub offset_bounds-end-many : goal.offset_bounds-end-many
+offset_bounds-end-many c =
+    omega (arith, fits c.requires.0 c.requires.1)
+
+pub bounds-end-many : goal.bounds-end-many
+bounds-end-many c =
+    omega (arith, length-set c.args.end.now c.args.c c.args.at, fits c.requires.0 c.requires.1)
+
+pub overflow_cast-to : goal.overflow_cast-to
+overflow_cast-to c =
+    omega (arith, fits c.requires.0 c.requires.1)
+
+pub overflow_cast-many : goal.overflow_cast-many
+overflow_cast-many c =
+    omega (arith, fits c.requires.0 c.requires.1)
+
+pub renumber-requires : goal.renumber-requires
+renumber-requires c =
+    (once-of c.requires.0, (omega (arith, c.requires.1.from, c.requires.1.to), omega (arith, fits c.requires.0 c.requires.1)))
+
+pub returns : goal.returns
+returns c =
+    end-cut c.requires.0 c.requires.1 c.renumber.ensures

@@ -1,0 +1,14 @@
+use borrow.Author.Rules.{rules}
+use Prim.Native.Nat.{◌-◌}
+use lib.ListN.{length}
+use Rattle.zeros.proofs.ZeroLaws.{Zeroed, zeroed-none, zeroed-more, zeroed-all}
+use Rattle.zeros.proofs.clear_sets.Goals as goal
+
+pub loop-i-init : goal.loop-i-init
+loop-i-init c = zeroed-none (search rules)
+
+pub loop-i-preserved : goal.loop-i-preserved
+loop-i-preserved c = zeroed-more c.loop-i.invariant (search rules)
+
+pub returns : goal.returns
+returns c = zeroed-all c.loop-i.invariant (search rules)
