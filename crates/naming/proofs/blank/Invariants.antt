@@ -1,0 +1,15 @@
+use borrow.Author.Rules.{rules}
+use mathlib.Core.Path.{◌≡◌, ap, ◌∙◌}
+use mathlib.Core.List.{List, ◌++◌, append-nil}
+use Prim.Native.Nat.{ℕ, ◌≤◌, ◌-◌}
+use native.Mathlib.Omega.{arith}
+use borrow.Author.Fill.{fill_more}
+use lib.ListN.{length, set, drop, replicate, length-set, drop_of_length-le}
+use Rattle.rules.specs.Sizes.{rows_most}
+use Rattle.naming.proofs.blank.Given as goal
+
+abbrev pub invariant-loop-c : goal.invariant-loop-c
+invariant-loop-c l = (l.c ≤ length l.initial.first) × (length l.first ≡ length l.initial.first) × (l.first ≡ replicate l.c rows_most ++ drop l.c l.initial.first)
+
+abbrev pub decreases-loop-c : goal.decreases-loop-c
+decreases-loop-c l = length l.initial.first - l.c

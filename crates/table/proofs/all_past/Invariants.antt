@@ -1,0 +1,19 @@
+use mathlib.Core.Path.{◌≡◌, ap, ◌∙◌}
+use mathlib.Core.Bool.{Bool, ◌&&◌}
+use Prim.Native.Nat.{ℕ, ◌-◌, ◌≤◌}
+use native.Mathlib.Omega.{arith}
+use lib.Dec.{leb, eqb}
+use lib.ListN.{length, take}
+use lib.Seq.{take_all}
+use borrow.Author.Rules.{rules}
+use Rattle.rules.specs.Tools.{all}
+use Rattle.rules.proofs.TableLaws.{all-on}
+use Rattle.table.proofs.CellLaws.{bits_none, not-past}
+use Rattle.table.proofs.all_past.Given as goal
+
+-- `all_past` meets its contract: no cell that was passed lies past the last row exactly if `far` is 0.
+abbrev pub invariant-loop-i : goal.invariant-loop-i
+invariant-loop-i l = (l.i ≤ length l.cells) × (eqb l.far 0 ≡ all (λ c. leb c l.last) (take l.i l.cells))
+
+abbrev pub decreases-loop-i : goal.decreases-loop-i
+decreases-loop-i l = length l.cells - l.i
