@@ -7,7 +7,7 @@ ghost use Rattle.ahead.specs.Ahead.{lent, Stuck, Ready, Flags, Stretch, Walked};
 use kinds::{ROWS, Row};
 
 // What is known of a table's rows: how many, the head row, and a row that no match comes after (`count` where none is known).
-#[derive(Drop)]
+#[derive(Clone, Copy)]
 pub struct Rows {
     pub count: u16,
     pub head: Row,

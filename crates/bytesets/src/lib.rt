@@ -5,7 +5,7 @@ ghost use Rattle.rules.specs.Tools.{range, with_all};
 ghost use Rattle.rules.specs.Signs.{every_byte};
 ghost use Rattle.bytesets.specs.ByteSets.{bytes_of, word_of, InWord};
 
-#[derive(Drop)]
+#[derive(Clone, Copy)]
 pub struct ByteSet(pub u64, pub u64, pub u64, pub u64);
 
 // The bits below n, of which a word has 64.

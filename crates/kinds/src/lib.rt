@@ -5,11 +5,11 @@ ghost use Rattle.kinds.specs.Refusals.{refusal_of};
 ghost use Rattle.rules.specs.Answers.{refusal};
 
 // A node of a pattern: a member of a set row.
-#[derive(Drop)]
+#[derive(Clone, Copy)]
 pub struct Node(pub u16);
 
 // A row of a table: its 256 cells are those from 256 times its number on.
-#[derive(Drop)]
+#[derive(Clone, Copy)]
 pub struct Row(pub u16);
 
 // Bytes of a pattern.
@@ -60,7 +60,7 @@ fn agreed_sizes() -> Sizes
 }
 
 // What is turned away; `refusal_of` has the number, the place and the values of each.
-#[derive(Drop)]
+#[derive(Clone, Copy)]
 pub enum Refusal {
     TooLong,
     // Those of reading, 2 to 9, with their place.

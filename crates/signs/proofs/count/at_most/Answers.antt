@@ -1,4 +1,5 @@
 use borrow.Author.Tests.{le-leb, lt-leb}
+use borrow.Enum.Refused.{opened}
 use Rattle.signs.proofs.count.at_most.Goals as goal
 
 -- `at_most`

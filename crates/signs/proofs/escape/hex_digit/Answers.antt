@@ -3,6 +3,7 @@ use mathlib.Core.Option.{some}
 use native.Mathlib.Omega.{arith}
 use Rattle.signs.proofs.DigitLaws.{within_low}
 use borrow.Author.Rules.{rules}
+use borrow.Enum.Refused.{opened}
 use Rattle.signs.proofs.escape.hex_digit.Goals as goal
 
 -- `hex_digit`

@@ -1,0 +1,15 @@
+use borrow.Author.Rules.{rules}
+use mathlib.Core.Path.{◌≡◌, refl, ap, ◌∙◌}
+use Prim.Native.Nat.{ℕ, ◌+◌, ◌≤◌, ◌-◌}
+use native.Mathlib.Omega.{arith}
+use lib.ListN.{length, get_or, drop}
+use Rattle.keys.specs.Keys.{key, key_on, mixed_in, all_mixed}
+use Rattle.keys.proofs.KeyLaws.{mixed-more, mixed-end, Seen, seen_none, seen_more, seen_all}
+use borrow.Enum.Refused.{opened}
+use Rattle.keys.proofs.mix_row.Given as goal
+
+abbrev pub invariant-loop-k : goal.invariant-loop-k
+invariant-loop-k l = (l.k ≤ length l.bytes) × (all_mixed l.cells l.class l.from l.r l.h (drop l.k l.bytes) ≡ all_mixed l.cells l.class l.from l.r 0 l.bytes) × Seen l.any l.cells l.class l.from l.bytes l.r l.k
+
+abbrev pub decreases-loop-k : goal.decreases-loop-k
+decreases-loop-k l = length l.bytes - l.k

@@ -1,0 +1,16 @@
+use mathlib.Core.Path.{◌∙◌, ap}
+use Prim.Native.Nat.{ℕ, ◌+◌, ◌*◌}
+use Rattle.known.proofs.Mixed.{mixed-past, mixed-word}
+use borrow.Author.Rules.{rules}
+use borrow.Enum.Refused.{opened}
+use Rattle.known.proofs.mix_in.Goals as goal
+
+pub returns-then-word-eq0 : goal.returns-then-word-eq0
+returns-then-word-eq0 c =
+    let args = c.args in
+    mixed-past args.h args.i args.word c.if-word-eq0.true
+
+pub returns : goal.returns
+returns c =
+    let args = c.args in
+    ap (λ (z : ℕ). z + args.i * 2246822519) c.mix.ensures.0 ∙ mixed-word args.h args.i args.word c.if-word-eq0.false

@@ -1,0 +1,62 @@
+use mathlib.Core.Path.{sym}
+use Prim.Native.Nat.{◌/◌, ◌%◌}
+use borrow.Author.Rules.{rules}
+use Rattle.program.specs.Program.{operation_of, kinds}
+use Rattle.signs.specs.declared.count.Repeat.TheVariants.{AtLeast}
+use Rattle.program.specs.declared.Op.TheVariants.{Repeated}
+use Rattle.signs.proofs.Tables.{no_key}
+use borrow.Enum.Refused.{opened}
+use Rattle.program.proofs.operation.Goals as goal
+
+pub returns-in-0 : goal.returns-in-0
+unfolding operation_of
+returns-in-0 c = rw c.in-0.is
+
+pub returns-in-1 : goal.returns-in-1
+unfolding operation_of
+returns-in-1 c = rw c.in-1.is
+
+pub returns-in-2 : goal.returns-in-2
+unfolding operation_of
+returns-in-2 c = rw c.in-2.is
+
+pub returns-in-3 : goal.returns-in-3
+unfolding operation_of
+returns-in-3 c = rw c.in-3.is
+
+pub returns-in-4 : goal.returns-in-4
+unfolding operation_of
+returns-in-4 c = rw c.in-4.is
+
+pub returns-in-5 : goal.returns-in-5
+unfolding operation_of
+returns-in-5 c = rw c.in-5.is
+
+pub returns-in-6 : goal.returns-in-6
+unfolding operation_of
+returns-in-6 c = rw c.in-6.is
+
+pub returns-in-7 : goal.returns-in-7
+unfolding operation_of
+returns-in-7 c = rw c.in-7.is
+
+pub returns-in-8 : goal.returns-in-8
+unfolding operation_of
+returns-in-8 c = rw c.in-8.is
+
+pub returns-in-9 : goal.returns-in-9
+unfolding operation_of
+returns-in-9 c = rw c.in-9.is
+
+pub returns-in-10 : goal.returns-in-10
+unfolding operation_of
+returns-in-10 c = rw c.in-10.is
+
+pub returns-in-11 : goal.returns-in-11
+unfolding operation_of
+returns-in-11 c = rw c.in-11.is
+
+-- `operation`: an arm for each kind.
+pub returns-in_default : goal.returns-in_default
+unfolding operation_of
+returns-in_default c = let w = c.args.word in sym (no_key (Repeated (AtLeast (w / 16 % 65536))) (w % 16) (kinds (w / 16)) c.in_default.in_default-own.rest)
