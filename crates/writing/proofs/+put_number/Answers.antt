@@ -5,21 +5,8 @@ use lib.ListN.{length}
 use Rattle.writing.proofs.Numbers.{decimal_digit, decimal-more, decimal-length}
 use Rattle.writing.proofs.Writings.{join}
 use Prim.Native.Nat.{ℕ, ◌<◌}
-use Rattle.writing.proofs.+put_number.{statement}
 use borrow.Enum.Refused.{opened}
 use Rattle.writing.proofs.+put_number.Goals as goal
-
--- HELPERS
-abbrev μ-put-number : Measures 1 put-number-kinds.ps ℕ
-μ-put-number κs a = a.1.1.0
-
-abbrev put-number-at : ℕ → In 1 put-number-kinds.ps
-put-number-at t =
-    and 1 put-number-kinds.ps (is 1 put-number-kinds.ps μ-put-number t) put-number.Pre
-
-abbrev put-number-below : ℕ → In 1 put-number-kinds.ps
-put-number-below t =
-    and 1 put-number-kinds.ps (falls 1 put-number-kinds.ps ◌<◌ μ-put-number t) put-number.Pre
 
 pub put-requires : goal.put-requires
 put-requires t c = omega (arith, ap length (decimal_digit c.args.n (omega arith)))

@@ -6,11 +6,11 @@ use lib.Seq.{set_out}
 use Rattle.writing.proofs.put.Goals as goal
 
 pub shape_of-out : goal.shape_of-out
-shape_of-out c = ⊎_elim (λ x. ap length x.1 ∙ simp length-set) (λ x. ap length x.1) c.if-at-out.branch-raw
+shape_of-out c = ⊎_elim (λ x. ap length x.out-is ∙ simp length-set) (λ x. ap length x.out-is) c.if-at-out.branch-raw
 
 pub returns : goal.returns
 returns c =
     record {
-      buffer = ⊎_elim (λ x. x.1) (λ x. x.1 ∙ sym (set_out c.args.out.now c.args.at c.args.b x.0.left)) c.if-at-out.branch-raw;
+      buffer = ⊎_elim (λ x. x.out-is) (λ x. x.out-is ∙ sym (set_out c.args.out.now c.args.at c.args.b (search rules))) c.if-at-out.branch-raw;
       next = refl;
     }

@@ -26,9 +26,9 @@ put_all-requires c =
 
 pub loop-p-preserved : goal.loop-p-preserved
 loop-p-preserved c =
-    let P = c.put_all_lem in
-    let M = touched-more c.args.order.now c.args.preds.now c.loop-p.set c.args.from c.loop-p.p c.loop-p.invariant.1 P.auto.0 P.ensures c.loop-p.invariant.2 c.loop-p.invariant.3 in
-    (omega arith, P.auto.0 ∙ c.loop-p.invariant.1, M.0, M.1)
+    let P = c.put_all in
+    let M = touched-more c.args.order.now c.args.preds.now c.loop-p.set c.args.from c.loop-p.p c.loop-p.invariant.1 P.auto.set P.ensures c.loop-p.invariant.2 c.loop-p.invariant.3 in
+    (omega arith, P.auto.set ∙ c.loop-p.invariant.1, M.0, M.1)
 
 pub shape_of-set : goal.shape_of-set
 shape_of-set c =

@@ -1,0 +1,8 @@
+use borrow.Author.Rules.{rules}
+use Rattle.writing.proofs.Writings.{join}
+use borrow.Enum.Refused.{opened}
+use Rattle.dot.proofs.put_digits.Goals as goal
+
+-- `put_digits`
+pub returns : goal.returns
+returns c = join (join c.put-here.ensures c.put-here-2.ensures) c.put.ensures

@@ -1,0 +1,42 @@
+use borrow.Author.Rules.{rules}
+use mathlib.Core.Path.{◌≡◌, sym, ◌∙◌}
+use mathlib.Core.Bool.{true}
+use native.Mathlib.Omega.{arith}
+use borrow.Author.Tests.{not-true, not-false}
+use Rattle.rules.specs.Table.{Table, well_formed, WellFormed}
+use Rattle.rules.proofs.TableLaws.{well-formed-test}
+use Rattle.table.specs.Lent.{table_of}
+use Rattle.dot.proofs.Lengths.{dot-most}
+use Rattle.writing.proofs.Answered.{formed-shown, unformed-shown}
+use borrow.Enum.Refused.{opened}
+use Rattle.dot.proofs.write_dot.Goals as goal
+use Rattle.dot.proofs.write_dot.Goals.{Else-not-well_formed, Start}
+
+-- `write_dot`
+abbrev table : Start → Table
+table S = table_of S.args.rows S.args.head.0 S.args.marks.now S.args.cells.now
+
+formed : (c : Else-not-well_formed) → well_formed (table c.before.before.before.before.before) ≡ true
+formed c = sym c.well-formed-2.ensures ∙ not-false c.well-formed-2.result c.if-not-well_formed.false
+
+good : (c : Else-not-well_formed) → WellFormed (table c.before.before.before.before.before)
+good c = (well-formed-test _).0 (formed c)
+
+pub returns-then-not-well_formed : goal.returns-then-not-well_formed
+returns-then-not-well_formed c = unformed-shown (table (goal.at.returns-then-not-well_formed c).Start) _ _ (sym c.well-formed-2.ensures ∙ not-true c.well-formed-2.result c.if-not-well_formed.true-raw)
+
+pub put_dot-n-requires : goal.put_dot-n-requires
+put_dot-n-requires c =
+    let g = good (goal.at.put_dot-n-requires c).Else-not-well_formed in
+ record {
+      formed = g.formed;
+      room = omega (arith, dot-most g);
+    }
+
+pub answer-requires : goal.answer-requires
+answer-requires c =
+    let g = good (goal.at.answer-requires c).Else-not-well_formed in
+    omega (arith, dot-most g)
+
+pub returns : goal.returns
+returns c = formed-shown (table (goal.at.returns c).Start) c.answer.result (formed (goal.at.returns c).Else-not-well_formed) c.put_dot-n.ensures c.answer.ensures
