@@ -15,7 +15,7 @@ KEPT = {"cB", "dA", "eB", "lL", "extA", "extR", "lmA", "fromX", "fromY", "toY", 
 LEMMAS = {"same_row": "same-row", "runs_on": "runs-on"}
 
 WORD = re.compile(r"(?<![A-Za-z0-9_'])[a-z][a-z0-9_]*[A-Z][A-Za-z0-9_']*")
-STRING = re.compile(r'b?"(?:[^"\\]|\\.)*"')
+STRING = re.compile(r"""b?"(?:[^"\\]|\\.)*"|b?'(?:[^'\\]|\\.)'""")
 
 
 def snake(word):
@@ -32,9 +32,9 @@ def spelled(match):
     return snake(word)
 
 
-def respell(text, rust):
+def respell(text, rust, first):
     if not rust:
-        for old, new in LEMMAS.items():
+        for old, new in LEMMAS.items() if first else ():
             text = re.sub(rf"(?<![A-Za-z0-9_'-]){old}(?![A-Za-z0-9_'-])", new, text)
         return WORD.sub(spelled, text)
     parts, last = [], 0
@@ -45,13 +45,16 @@ def respell(text, rust):
 
 
 def main():
-    changed = 0
+    texts = {}
     for path in sorted(glob.glob("crates/*/**/*", recursive=True)):
-        if not path.endswith((".antt", ".rt", ".edit")):
-            continue
-        with open(path, encoding="utf-8") as file:
-            old = file.read()
-        new = respell(old, path.endswith((".rt", ".edit")))
+        if path.endswith((".antt", ".rt", ".edit")):
+            with open(path, encoding="utf-8") as file:
+                texts[path] = file.read()
+    # The definitions are in snake case from the second run on, so what is spelled like them then is no lemma.
+    first = any(re.search(r"\bsameRow\b", text) for text in texts.values())
+    changed = 0
+    for path, old in texts.items():
+        new = respell(old, path.endswith((".rt", ".edit")), first)
         if new != old:
             changed += 1
             with open(path, "w", encoding="utf-8") as file:

@@ -41,8 +41,8 @@ fn put_byte(out: &mut [u8], at: usize, b: u8) -> usize
 
 // The bytes of a run.
 fn put_bytes(out: &mut [u8], at: usize, lo: u8, hi: u8) -> usize
-    requires { Room at (bytesText lo hi) }
-    ensures { Writes out.old at (bytesText lo hi) out.new result }
+    requires { Room at (bytes_text lo hi) }
+    ensures { Writes out.old at (bytes_text lo hi) out.new result }
 {
     if lo == hi {
         return put_byte(out, at, lo);

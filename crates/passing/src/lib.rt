@@ -8,7 +8,7 @@ use ahead::{Rows, begin};
 use kinds::{ROWS, Row};
 
 // A match, or none.
-#[derive(Drop)]
+#[derive(Clone, Copy)]
 pub enum Found {
     Match(u32, u32),
     Nothing,

@@ -11,9 +11,9 @@ use borrow.Enum.Refused.{opened}
 use Rattle.dot.proofs.put_bytes.Goals as goal
 use Rattle.dot.proofs.put_bytes.Goals.{Else-lo-hi}
 
-more : (c : Else-lo-hi) → let s = c.before.before in bytes_text s.args.lo s.args.hi ≡ byte_text s.args.lo ++ bytes_of "-" ++ byte_text s.args.hi
+more : (c : Else-lo-hi) → let s = c.before.before.before in bytes_text s.args.lo s.args.hi ≡ byte_text s.args.lo ++ bytes_of "-" ++ byte_text s.args.hi
 more c =
-    let s = c.before.before in
+    let s = c.before.before.before in
     bytes-more s.args.lo s.args.hi c.if-lo-hi.false
 
 -- `put_bytes`

@@ -17,12 +17,12 @@ use Rattle.dot.proofs.put_row.Goals.{Else-is_trap, Start}
 abbrev table : Start → Table
 table s = table_of 0 s.args.head.0 s.args.marks.now s.args.cells.now
 
-drawn : (c : Else-is_trap) → let s = c.before.before.before.before.before in row_dot (table s) s.args.q.0 ≡ row_text (table s) s.args.q.0
+drawn : (c : Else-is_trap) → let s = c.before.before.before.before.before.before in row_dot (table s) s.args.q.0 ≡ row_text (table s) s.args.q.0
 drawn c =
-    let s = c.before.before.before.before.before in
+    let s = c.before.before.before.before.before.before in
     row_one (table s) s.args.q.0 (sym c.is_trap.ensures ∙ c.if-is_trap.false)
 
-room : (c : Else-is_trap) → let s = c.before.before.before.before.before in Room s.args.at (row_text (table s) s.args.q.0)
+room : (c : Else-is_trap) → let s = c.before.before.before.before.before.before in Room s.args.at (row_text (table s) s.args.q.0)
 room c = rw (drawn c) at c.requires.room
 
 pub returns-then-is_trap : goal.returns-then-is_trap

@@ -10,16 +10,16 @@ use Rattle.dot.specs.Dot.{line, shape}
 use Rattle.dot.proofs.DotLaws.{shape-match, shape-end, shape-plain}
 use borrow.Enum.Refused.{opened}
 use Rattle.dot.proofs.put_shape.Goals as goal
-use Rattle.dot.proofs.put_shape.Goals.{After-put_all-arg-2-1, After-put_all-arg-then-ends_here-2-2-1, After-put_all-arg-then-ends_here-2-3-1, Else-ends_here-2, Then-ends_here-2}
+use Rattle.dot.proofs.put_shape.Goals.{Else-ends_here-2, Then-ends_here-2}
 
-ended : (c : Then-ends_here-2) → let s = c.before.before.before.before.before in shape s.args.q.0 s.args.mark ≡ bytes_of " [label=\"" ++ decimal s.args.q.0 ++ line " $\"];"
+ended : (c : Then-ends_here-2) → let s = c.before.before.before.before.before.before in shape s.args.q.0 s.args.mark ≡ bytes_of " [label=\"" ++ decimal s.args.q.0 ++ line " $\"];"
 ended c =
-    let s = c.before.before.before.before.before in
+    let s = c.before.before.before.before.before.before in
     shape-end s.args.q.0 s.args.mark (sym c.ends_here.ensures ∙ c.if-ends_here.false) (sym c.ends_here-2.ensures ∙ c.if-ends_here-2.true)
 
-plain : (c : Else-ends_here-2) → let s = c.before.before.before.before.before in shape s.args.q.0 s.args.mark ≡ line ";"
+plain : (c : Else-ends_here-2) → let s = c.before.before.before.before.before.before in shape s.args.q.0 s.args.mark ≡ line ";"
 plain c =
-    let s = c.before.before.before.before.before in
+    let s = c.before.before.before.before.before.before in
     shape-plain s.args.q.0 s.args.mark (sym c.ends_here.ensures ∙ c.if-ends_here.false) (sym c.ends_here-2.ensures ∙ c.if-ends_here-2.false)
 
 -- `put_shape`
@@ -32,19 +32,19 @@ returns-then-ends_here c =
     rw (shape-match c.args.q.0 c.args.mark (sym c.ends_here.ensures ∙ c.if-ends_here.true)) c.put_all.ensures
 
 pub put_all-here-requires : goal.put_all-here-requires
-put_all-here-requires c = omega (arith, simp length-append at (ap length (ended (goal.at.put_all-here-requires c).After-put_all-arg-then-ends_here-2-2-1)))
+put_all-here-requires c = omega (arith, simp length-append at (ap length (ended (goal.at.put_all-here-requires c).Then-ends_here-2)))
 
 pub put_number-here-requires : goal.put_number-here-requires
-put_number-here-requires c = omega (arith, simp length-append at (ap length (ended (goal.at.put_number-here-requires c).After-put_all-arg-then-ends_here-2-2-1)))
+put_number-here-requires c = omega (arith, simp length-append at (ap length (ended (goal.at.put_number-here-requires c).Then-ends_here-2)))
 
 pub put_all-requires-then-ends_here-2 : goal.put_all-requires-then-ends_here-2
-put_all-requires-then-ends_here-2 c = omega (arith, simp length-append at (ap length (ended (goal.at.put_all-requires-then-ends_here-2 c).After-put_all-arg-then-ends_here-2-3-1)))
+put_all-requires-then-ends_here-2 c = omega (arith, simp length-append at (ap length (ended (goal.at.put_all-requires-then-ends_here-2 c).Then-ends_here-2)))
 
 pub returns-then-ends_here-2 : goal.returns-then-ends_here-2
-returns-then-ends_here-2 c = rw (ended (goal.at.returns-then-ends_here-2 c).After-put_all-arg-then-ends_here-2-3-1) (join (join c.put_all-here.ensures c.put_number-here.ensures) c.put_all-then-ends_here-2.ensures)
+returns-then-ends_here-2 c = rw (ended (goal.at.returns-then-ends_here-2 c).Then-ends_here-2) (join (join c.put_all-here.ensures c.put_number-here.ensures) c.put_all-then-ends_here-2.ensures)
 
 pub put_all-requires-2 : goal.put_all-requires-2
-put_all-requires-2 c = rw (plain (goal.at.put_all-requires-2 c).After-put_all-arg-2-1) at c.requires
+put_all-requires-2 c = rw (plain (goal.at.put_all-requires-2 c).Else-ends_here-2) at c.requires
 
 pub returns : goal.returns
-returns c = rw (plain (goal.at.returns c).After-put_all-arg-2-1) c.put_all-2.ensures
+returns c = rw (plain (goal.at.returns c).Else-ends_here-2) c.put_all-2.ensures

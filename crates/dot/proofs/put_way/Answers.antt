@@ -18,9 +18,9 @@ table s = table_of 0 s.args.head.0 s.args.marks.now s.args.cells.now
 abbrev run : Start → Run
 run s = run_of s.args.lo s.args.hi s.args.to.0
 
-drawn : (c : Else-is_trap) → let s = c.before.before.before.before.before in arrow_unless_trap (table s) s.args.q.0 (run s) ≡ arrow s.args.q.0 (run s)
+drawn : (c : Else-is_trap) → let s = c.before.before.before.before.before.before in arrow_unless_trap (table s) s.args.q.0 (run s) ≡ arrow s.args.q.0 (run s)
 drawn c =
-    let s = c.before.before.before.before.before in
+    let s = c.before.before.before.before.before.before in
     arrow-one (table s) s.args.q.0 (run s) (sym c.is_trap.ensures ∙ c.if-is_trap.false)
 
 pub returns-then-is_trap : goal.returns-then-is_trap

@@ -16,14 +16,14 @@ use Rattle.dot.proofs.write_dot.Goals.{Else-not-well_formed, Start}
 abbrev table : Start → Table
 table S = table_of S.args.rows S.args.head.0 S.args.marks.now S.args.cells.now
 
-formed : (c : Else-not-well_formed) → well_formed (table c.before.before.before.before.before) ≡ true
-formed c = sym c.well-formed-2.ensures ∙ not-false c.well-formed-2.result c.if-not-well_formed.false
+formed : (c : Else-not-well_formed) → well_formed (table c.before.before.before.before.before.before) ≡ true
+formed c = sym c.well_formed-2.ensures ∙ not-false c.well_formed-2.result c.if-not-well_formed.false-raw
 
-good : (c : Else-not-well_formed) → WellFormed (table c.before.before.before.before.before)
+good : (c : Else-not-well_formed) → WellFormed (table c.before.before.before.before.before.before)
 good c = (well-formed-test _).0 (formed c)
 
 pub returns-then-not-well_formed : goal.returns-then-not-well_formed
-returns-then-not-well_formed c = unformed-shown (table (goal.at.returns-then-not-well_formed c).Start) _ _ (sym c.well-formed-2.ensures ∙ not-true c.well-formed-2.result c.if-not-well_formed.true-raw)
+returns-then-not-well_formed c = unformed-shown (table (goal.at.returns-then-not-well_formed c).Start) _ _ (sym c.well_formed-2.ensures ∙ not-true c.well_formed-2.result c.if-not-well_formed.true-raw)
 
 pub put_dot-n-requires : goal.put_dot-n-requires
 put_dot-n-requires c =

@@ -13,9 +13,9 @@ use Rattle.spine.proofs.descend.Goals as goal
 use Rattle.spine.proofs.descend.Goals.{At-down, In-Part, In-Part-2}
 
 -- where the loop has come to
-here : (c : At-down) → let S = c.before.before.before in
+here : (c : At-down) → let S = c.before.before.before.before in
     Reached S.args.program.now c.down.passed S.args.end S.args.base.0 c.down.at c.down.start.0 S.requires.0
-here c = let S = c.before.before.before in
+here c = let S = c.before.before.before.before in
     reached S.args.program.now c.down.spine c.down.passed S.args.end S.args.base.0 c.down.at c.down.start.0 S.requires.1 c.down.invariant.0 S.requires.0
 
 -- the way to the left part
@@ -24,10 +24,10 @@ split : (c : In-Part-2) → let W = c.before.before.before.before.before in
 split c = rw (c.in-Part.is, c.operation.ensures) at c.left_of.ensures
 
 -- there is room for one more
-within : (c : In-Part) → let W = c.before.before.before.before.before.before in
+within : (c : In-Part) → let W = c.before.before.before.before.before.before.before in
     (1 ≤ W.down.at) × (W.down.at + W.down.passed ≤ length W.down.spine) × (W.down.at ≤ program_most)
 within c =
-    let W = c.before.before.before.before.before.before in
+    let W = c.before.before.before.before.before.before.before in
     let S = W.before.before.before in
     (nonempty (here W).part, omega (arith, (here W).room, S.requires.2, W.down.invariant.1), omega (arith, (here W).room, S.requires.3))
 

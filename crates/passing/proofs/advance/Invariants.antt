@@ -1,0 +1,16 @@
+use borrow.Author.Rules.{rules}
+use mathlib.Core.Path.{refl, sym, ◌∙◌}
+use Prim.Native.Nat.{◌-◌, ◌<◌}
+use native.Mathlib.Omega.{arith}
+use lib.ListN.{get_or}
+use Rattle.ahead.specs.Ahead.{lent}
+use Rattle.passing.proofs.KeptLaws.{kept-few}
+use Rattle.passing.proofs.RunLaws.{Running, running_none, running_more, running-hit, running-all}
+use borrow.Enum.Refused.{opened}
+use Rattle.passing.proofs.advance.Given as goal
+
+abbrev pub invariant-loop-i : goal.invariant-loop-i
+invariant-loop-i l = Running (lent l.known l.marks l.cells) l.text l.initial.rows l.initial.froms l.len l.p l.rows l.froms l.stamps l.kept l.i
+
+abbrev pub decreases-loop-i : goal.decreases-loop-i
+decreases-loop-i l = l.len - l.i

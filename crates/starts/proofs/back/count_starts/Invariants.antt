@@ -1,0 +1,20 @@
+use borrow.Author.Rules.{rules}
+use mathlib.Core.Path.{◌≡◌, ap, sym, ◌∙◌}
+use mathlib.Core.Bool.{true, false}
+use Prim.Native.Nat.{ℕ}
+use native.Mathlib.Omega.{arith}
+use lib.ListN.{length}
+use Rattle.ahead.specs.Ahead.{lent}
+use Rattle.ahead.specs.Ahead.{starts_from}
+use Rattle.starts.specs.Back.{Pass}
+use Rattle.ahead.proofs.AheadLaws.{flags-end}
+use Rattle.ahead.proofs.PlaceLaws.{starts-all, starts_none}
+use Rattle.starts.proofs.StartsLaws.{starts-back, starts-few}
+use borrow.Enum.Refused.{opened}
+use Rattle.starts.proofs.back.count_starts.Given as goal
+
+abbrev pub invariant-loop-s : goal.invariant-loop-s
+invariant-loop-s l = Pass (lent l.rows l.marks l.cells) l.text l.flags l.to l.spent l.s × (l.count ≡ length (starts_from (lent l.rows l.marks l.cells) l.text l.s))
+
+abbrev pub decreases-loop-s : goal.decreases-loop-s
+decreases-loop-s l = l.s
