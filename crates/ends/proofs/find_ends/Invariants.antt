@@ -1,16 +1,9 @@
-use borrow.Author.Rules.{rules}
-use mathlib.Core.Path.{refl, ap, sym, ◌∙◌}
-use mathlib.Core.Logic.{⊎_elim}
-use mathlib.Core.Bool.{true, false}
 use Prim.Native.Nat.{ℕ, ◌-◌, ◌≤◌, ◌<◌}
-use native.Mathlib.Numerals.{add-one}
-use native.Mathlib.Omega.{arith}
 use lib.ListN.{length}
 use Rattle.rules.specs.Table.{WellFormed}
 use Rattle.table.specs.Lent.{table_of}
-use Rattle.ends.specs.Readings.{end_of, FindsOn}
-use Rattle.ends.proofs.ReadingLaws.{at, finds-more}
-use borrow.Enum.Refused.{opened}
+use Rattle.ends.specs.Readings.{FindsOn}
+use Rattle.ends.proofs.ReadingLaws.{at}
 use Rattle.ends.proofs.find_ends.Given as goal
 
 -- `find_ends` meets its contract: from the row at p on, with what was found, the last end is that from where it began.

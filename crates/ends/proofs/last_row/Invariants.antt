@@ -1,15 +1,7 @@
-use borrow.Author.Rules.{rules}
-use mathlib.Core.Path.{refl, subst}
 use Prim.Native.Nat.{◌-◌, ◌≤◌}
-use native.Mathlib.Omega.{arith}
 use lib.ListN.{length}
-use Rattle.rules.specs.Table.{Table}
 use Rattle.table.specs.Lent.{table_of}
-use Rattle.table.specs.Stays.{no_byte_leaves}
-use Rattle.table.proofs.StaysLaws.{stays}
 use Rattle.ends.specs.Readings.{LeadsOn}
-use Rattle.ends.proofs.ReadingLaws.{left-stays, leads-over, leads_stays}
-use borrow.Enum.Refused.{opened}
 use Rattle.ends.proofs.last_row.Given as goal
 
 -- `last_row` meets its contract: stretch by stretch, or over all that is left where no byte leaves the row.

@@ -1,15 +1,7 @@
-use borrow.Author.Rules.{rules}
-use mathlib.Core.Path.{refl}
 use Prim.Native.Nat.{◌-◌}
-use native.Mathlib.Omega.{arith}
 use lib.ListN.{length}
-use Rattle.rules.specs.Table.{Table}
 use Rattle.table.specs.Lent.{table_of}
-use Rattle.table.specs.Stays.{no_byte_leaves}
-use Rattle.table.proofs.StaysLaws.{stays}
 use Rattle.ends.specs.Readings.{FindsOn}
-use Rattle.ends.proofs.ReadingLaws.{left-stays, row-cells, finds-over, finds-last}
-use borrow.Enum.Refused.{opened}
 use Rattle.ends.proofs.read_most.Given as goal
 
 -- `read_most` meets its contract: stretch by stretch, or up to the last byte where no byte leaves the row.

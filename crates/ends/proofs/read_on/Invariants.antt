@@ -1,12 +1,7 @@
-use borrow.Author.Rules.{rules}
-use mathlib.Core.Path.{refl, subst}
 use Prim.Native.Nat.{ℕ, ◌-◌, ◌≤◌, ◌<◌}
-use native.Mathlib.Omega.{arith}
 use Rattle.rules.specs.Table.{WellFormed}
 use Rattle.table.specs.Lent.{table_of}
 use Rattle.ends.specs.Readings.{LeadsOn}
-use Rattle.ends.proofs.ReadingLaws.{leads-more}
-use borrow.Enum.Refused.{opened}
 use Rattle.ends.proofs.read_on.Given as goal
 
 -- `read_on` meets its contract: from the row at p on the text leads to where it leads from the first row.

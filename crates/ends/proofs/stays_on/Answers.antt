@@ -1,9 +1,7 @@
-use borrow.Author.Rules.{rules}
 use mathlib.Core.Path.{ap, sym, ◌∙◌}
 use mathlib.Core.Bool.{Bool, ◌&&◌}
 use borrow.Author.Tests.{lt-ltb, le-ltb}
 use Rattle.table.specs.Stays.{no_byte_leaves}
-use borrow.Enum.Refused.{opened}
 use Rattle.ends.proofs.stays_on.Goals as goal
 
 -- `stays_on` meets its contract.

@@ -1,26 +1,20 @@
 use mathlib.Core.Path.{◌≡◌, ap, sym, ◌∙◌}
 use mathlib.Core.Bool.{true}
-use borrow.Author.Tests.{not-true, not-false}
-use borrow.Author.Rules.{rules}
-use Rattle.rules.specs.Table.{Table, well_formed}
+use Rattle.rules.specs.Table.{well_formed}
 use Rattle.rules.specs.Answers.{given}
 use Rattle.rules.specs.Matchers.{whole_answer}
 use Rattle.rules.proofs.TableLaws.{checked-13, checked-12, checked-past}
 use Rattle.table.specs.Lent.{table_of}
-use borrow.Enum.Refused.{opened}
 use Rattle.ends.proofs.whole.Goals as goal
-use Rattle.ends.proofs.whole.Goals.{Else-not-well_formed, Start}
+use Rattle.ends.proofs.whole.Goals.{Else-not-well_formed}
 
 -- `whole` meets its contract: 13, then 12, then what `takes_whole` says.
-abbrev lent : Start → Table
-lent S = table_of S.args.rows S.args.head.0 S.args.marks.now S.args.cells.now
-
-formed : (c : Else-not-well_formed) → well_formed (lent c.before.before.before.before.before.before) ≡ true
-formed c = sym c.well_formed-2.ensures ∙ not-false c.well_formed-2.result c.if-not-well_formed.false-raw
+formed : (c : Else-not-well_formed) → let A = c.args in well_formed (table_of A.rows A.head.0 A.marks.now A.cells.now) ≡ true
+formed c = sym c.well_formed-2.ensures ∙ c.if-not-well_formed.false
 
 pub returns-then-not-well_formed : goal.returns-then-not-well_formed
 unfolding whole_answer
-returns-then-not-well_formed c = sym (checked-13 _ _ _ (sym c.well_formed-2.ensures ∙ not-true c.well_formed-2.result c.if-not-well_formed.true-raw))
+returns-then-not-well_formed c = sym (checked-13 _ _ _ (sym c.well_formed-2.ensures ∙ c.if-not-well_formed.true))
 
 pub returns-then-text-gt-TEXT_MOST : goal.returns-then-text-gt-TEXT_MOST
 unfolding whole_answer

@@ -2,9 +2,7 @@ use mathlib.Core.Logic.{⊎_elim}
 use Prim.Native.Nat.{◌-◌}
 use native.Mathlib.Omega.{arith}
 use Rattle.round.specs.Groups.{there}
-use Rattle.round.proofs.GroupLaws.{Seek, seek-in, seek-first, seek-next, seek-none}
-use borrow.Author.Rules.{rules}
-use borrow.Enum.Refused.{opened}
+use Rattle.round.proofs.GroupLaws.{seek-in, seek-first, seek-next, seek-none}
 use Rattle.round.proofs.find.Goals as goal
 
 pub loop-x-init : goal.loop-x-init
@@ -65,13 +63,13 @@ loop-x-smaller c =
       arith,
       c.loop-x-test.true,
       (seek-next (λ k l. omega (arith, c.shared_slice_known-3-1.given k)) c.loop-x.invariant c.loop-x-test.true c.args.links.now c.requires.linked.0
-          (⊎_elim (λ x s. x.1.ensures.no x.2.left s.goes) (λ x s. x.left s.together) c.if-class-m.branch-raw)).0,
+          (⊎_elim (λ x s. x.alike.ensures.no x.if-alike.false s.goes) (λ x s. x.if-class-m.false s.together) c.if-class-m.branch-raw)).0,
     )
 
 pub loop-x-preserved : goal.loop-x-preserved
 loop-x-preserved c =
     (seek-next (λ k l. omega (arith, c.shared_slice_known-3-1.given k)) c.loop-x.invariant c.loop-x-test.true c.args.links.now c.requires.linked.0
-    (⊎_elim (λ x s. x.1.ensures.no x.2.left s.goes) (λ x s. x.left s.together) c.if-class-m.branch-raw)).1
+    (⊎_elim (λ x s. x.alike.ensures.no x.if-alike.false s.goes) (λ x s. x.if-class-m.false s.together) c.if-class-m.branch-raw)).1
 
 pub returns : goal.returns
 returns c = seek-none (λ k l. omega (arith, c.shared_slice_known-3-1.given k)) c.loop-x.invariant c.loop-x-test.false

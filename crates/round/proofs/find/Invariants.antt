@@ -1,10 +1,4 @@
-use mathlib.Core.Logic.{⊎_elim}
-use Prim.Native.Nat.{◌-◌}
-use native.Mathlib.Omega.{arith}
-use Rattle.round.specs.Groups.{there}
-use Rattle.round.proofs.GroupLaws.{Seek, seek-in, seek-first, seek-next, seek-none}
-use borrow.Author.Rules.{rules}
-use borrow.Enum.Refused.{opened}
+use Rattle.round.proofs.GroupLaws.{Seek}
 use Rattle.round.proofs.find.Given as goal
 
 abbrev pub invariant-loop-x : goal.invariant-loop-x

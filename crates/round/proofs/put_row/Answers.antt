@@ -1,19 +1,17 @@
-use borrow.Author.Rules.{rules}
 use mathlib.Core.Path.{refl, ap, ◌∙◌}
 use mathlib.Core.List.{List}
 use Prim.Native.Nat.{ℕ, ◌+◌}
 use native.Mathlib.Omega.{arith}
 use lib.ListN.{length, set, length-set}
 use Rattle.round.proofs.GroupLaws.{filed-room, filed-firsts, filed-latest, sought-none, sought-there, filed-joined, filed-opened}
-use borrow.Enum.Refused.{opened}
 use Rattle.round.proofs.put_row.Goals as goal
 
 pub find-g-requires : goal.find-g-requires
 find-g-requires c = record {
-      given = (c.requires.given.0, c.requires.given.1.1);
-      firsts = filed-firsts c.requires.filed (omega (arith, c.requires.given.1.1));
-      linked = (c.requires.filed.book.linked, filed-latest c.requires.filed c.requires.bucket_lt_buckets.0 c.requires.bucket_lt_buckets.1.0);
-    }
+  given = (c.requires.given.0, c.requires.given.1.1);
+  firsts = filed-firsts c.requires.filed (omega (arith, c.requires.given.1.1));
+  linked = (c.requires.filed.book.linked, filed-latest c.requires.filed c.requires.bucket_lt_buckets.0 c.requires.bucket_lt_buckets.1.0);
+}
 
 pub bounds-firsts-g : goal.bounds-firsts-g
 bounds-firsts-g c =

@@ -1,11 +1,7 @@
 use mathlib.Core.Path.{sym, ◌∙◌}
 use mathlib.Core.Logic.{inl}
-use Prim.Native.Nat.{◌-◌, ◌≤◌}
 use native.Mathlib.Omega.{arith}
-use lib.ListN.{length}
-use Rattle.round.specs.Groups.{Filed, Passed, Lists}
 use Rattle.round.proofs.GroupLaws.{filed-none, filed-later, passed_none, passed_to, sorted_all}
-use borrow.Enum.Refused.{opened}
 use Rattle.round.proofs.sort.Goals as goal
 
 pub next_in-r-requires : goal.next_in-r-requires
@@ -27,10 +23,10 @@ slice_bounds-sort_row-end c =
 
 pub sort_row-count-requires : goal.sort_row-count-requires
 sort_row-count-requires c = record {
-      given = (c.requires.given.0, (c.loop-r.invariant.1, (c.requires.given.1.1, c.loop-r-test.true)));
-      filed = c.loop-r.invariant.2;
-      passed = c.loop-r.invariant.3;
-    }
+  given = (c.requires.given.0, (c.loop-r.invariant.1, (c.requires.given.1.1, c.loop-r-test.true)));
+  filed = c.loop-r.invariant.2;
+  passed = c.loop-r.invariant.3;
+}
 
 pub overflow_add-r : goal.overflow_add-r
 overflow_add-r c =
@@ -45,8 +41,7 @@ loop-r-smaller c = omega (arith, c.next_in-r-in-loop-r.ensures.least, c.next_in-
 
 pub loop-r-preserved : goal.loop-r-preserved
 loop-r-preserved c =
-    let p = c.next_in-r-in-loop-r.result in
-    (
+    let p = c.next_in-r-in-loop-r.result in (
       c.next_in-r-in-loop-r.ensures.most,
       record {
         few = c.requires.given.1.0.few;

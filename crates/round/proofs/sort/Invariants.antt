@@ -1,11 +1,6 @@
-use mathlib.Core.Path.{sym, ◌∙◌}
-use mathlib.Core.Logic.{inl}
 use Prim.Native.Nat.{◌-◌, ◌≤◌}
-use native.Mathlib.Omega.{arith}
 use lib.ListN.{length}
 use Rattle.round.specs.Groups.{Filed, Passed, Lists}
-use Rattle.round.proofs.GroupLaws.{filed-none, filed-later, passed_none, passed_to, sorted_all}
-use borrow.Enum.Refused.{opened}
 use Rattle.round.proofs.sort.Given as goal
 
 abbrev pub invariant-loop-r : goal.invariant-loop-r

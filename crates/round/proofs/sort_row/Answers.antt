@@ -1,10 +1,8 @@
-use borrow.Author.Rules.{rules}
 use mathlib.Core.Logic.{inl, inr}
 use Prim.Native.Nat.{◌+◌}
 use native.Mathlib.Omega.{arith}
 use borrow.Author.Tests.{not-true, not-false}
 use Rattle.round.proofs.GroupLaws.{filed-room, filed-later, passed-by, passed-put}
-use borrow.Enum.Refused.{opened}
 use Rattle.round.proofs.sort_row.Goals as goal
 
 pub overflow_cast-c : goal.overflow_cast-c
@@ -33,25 +31,25 @@ overflow_sub-end c =
 
 pub returns-then-end-c-eq1 : goal.returns-then-end-c-eq1
 returns-then-end-c-eq1 c = record {
-      filed_2 = filed-later c.requires.filed (c.args.r + 1) (omega arith);
-      passed_2 = passed-by c.requires.passed (inr (omega (arith, c.if-end-c-eq1.true, c.requires.given.1.1.0.order c.args.r c.requires.given.1.1.1)));
-    }
+  filed_2 = filed-later c.requires.filed (c.args.r + 1) (omega arith);
+  passed_2 = passed-by c.requires.passed (inr (omega (arith, c.if-end-c-eq1.true, c.requires.given.1.1.0.order c.args.r c.requires.given.1.1.1)));
+}
 
 pub returns-then-not-mixed : goal.returns-then-not-mixed
 returns-then-not-mixed c = record {
-      filed_2 = filed-later c.requires.filed (c.args.r + 1) (omega arith);
-      passed_2 = passed-by c.requires.passed (inl (c.mix_row-mixed.ensures.0.no (not-true c.mix_row-mixed.result.any c.if-not-mixed.true)));
-    }
+  filed_2 = filed-later c.requires.filed (c.args.r + 1) (omega arith);
+  passed_2 = passed-by c.requires.passed (inl (c.mix_row-mixed.ensures.0.no (not-true c.mix_row-mixed.result.any c.if-not-mixed.true)));
+}
 
 pub put_row-requires : goal.put_row-requires
 put_row-requires c = record {
-      given = (c.requires.given.0, (c.requires.given.1.0, c.requires.given.1.1.1));
-      filed = c.requires.filed;
-      bucket_lt_buckets = (c.mix_row-mixed.ensures.1.0, (c.mix_row-mixed.ensures.1.1, c.mix_row-mixed.ensures.0.yes (not-false c.mix_row-mixed.result.any c.if-not-mixed.false)));
-    }
+  given = (c.requires.given.0, (c.requires.given.1.0, c.requires.given.1.1.1));
+  filed = c.requires.filed;
+  bucket_lt_buckets = (c.mix_row-mixed.ensures.1.0, (c.mix_row-mixed.ensures.1.1, c.mix_row-mixed.ensures.0.yes (not-false c.mix_row-mixed.result.any c.if-not-mixed.false)));
+}
 
 pub returns : goal.returns
 returns c = record {
-      filed_2 = c.put_row.ensures.filed_2;
-      passed_2 = rw (c.put_row.ensures.rows_value.0, c.put_row.ensures.rows_value.1) (passed-put c.requires.passed (filed-room c.requires.filed c.requires.given.1.0 c.requires.given.1.1.1).0);
-    }
+  filed_2 = c.put_row.ensures.filed_2;
+  passed_2 = rw (c.put_row.ensures.rows_value.0, c.put_row.ensures.rows_value.1) (passed-put c.requires.passed (filed-room c.requires.filed c.requires.given.1.0 c.requires.given.1.1.1).0);
+}

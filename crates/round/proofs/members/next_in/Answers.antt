@@ -1,10 +1,6 @@
-use mathlib.Core.Path.{◌≡◌, sym, ◌∙◌}
-use mathlib.Core.Bool.{false}
-use Prim.Native.Nat.{ℕ, ◌-◌, ◌≤◌, ◌<◌}
+use mathlib.Core.Path.{sym, ◌∙◌}
 use native.Mathlib.Omega.{arith}
-use Rattle.sets.specs.Sets.{member}
 use Rattle.round.proofs.MemberLaws.{none-past}
-use borrow.Enum.Refused.{opened}
 use Rattle.round.proofs.members.next_in.Goals as goal
 
 pub loop-r-init : goal.loop-r-init
@@ -34,11 +30,10 @@ pub loop-r-smaller : goal.loop-r-smaller
 loop-r-smaller c = omega (arith, c.past-r.ensures.later)
 
 pub loop-r-preserved : goal.loop-r-preserved
-loop-r-preserved c =
-    (
-      omega (arith, c.past-r.ensures.later, c.loop-r.invariant.0),
-      none-past c.args.set.now c.loop-r.invariant.1 (sym c.test.ensures ∙ c.if-test.false) c.past-r.ensures,
-    )
+loop-r-preserved c = (
+  omega (arith, c.past-r.ensures.later, c.loop-r.invariant.0),
+  none-past c.args.set.now c.loop-r.invariant.1 (sym c.test.ensures ∙ c.if-test.false) c.past-r.ensures,
+)
 
 pub returns : goal.returns
 returns c =

@@ -1,10 +1,7 @@
-use mathlib.Core.Path.{◌≡◌, sym, ◌∙◌}
+use mathlib.Core.Path.{◌≡◌}
 use mathlib.Core.Bool.{false}
 use Prim.Native.Nat.{ℕ, ◌-◌, ◌≤◌, ◌<◌}
-use native.Mathlib.Omega.{arith}
 use Rattle.sets.specs.Sets.{member}
-use Rattle.round.proofs.MemberLaws.{none-past}
-use borrow.Enum.Refused.{opened}
 use Rattle.round.proofs.members.next_in.Given as goal
 
 abbrev pub invariant-loop-r : goal.invariant-loop-r

@@ -1,8 +1,6 @@
-use borrow.Author.Rules.{rules}
 use native.Mathlib.Omega.{arith}
 use lib.Count.{trailing_le}
 use Rattle.round.proofs.MemberLaws.{after, past-none, past-some}
-use borrow.Enum.Refused.{opened}
 use Rattle.round.proofs.members.past.Goals as goal
 
 pub returns-then-after-eq0 : goal.returns-then-after-eq0

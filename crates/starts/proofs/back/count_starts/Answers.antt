@@ -1,4 +1,3 @@
-use borrow.Author.Rules.{rules}
 use mathlib.Core.Path.{◌≡◌, ap, sym, ◌∙◌}
 use mathlib.Core.Bool.{true, false}
 use Prim.Native.Nat.{ℕ}
@@ -6,11 +5,9 @@ use native.Mathlib.Omega.{arith}
 use lib.ListN.{length}
 use Rattle.ahead.specs.Ahead.{lent}
 use Rattle.ahead.specs.Ahead.{starts_from}
-use Rattle.starts.specs.Back.{Pass}
 use Rattle.ahead.proofs.AheadLaws.{flags-end}
 use Rattle.ahead.proofs.PlaceLaws.{starts-all, starts_none}
 use Rattle.starts.proofs.StartsLaws.{starts-back, starts-few}
-use borrow.Enum.Refused.{opened}
 use Rattle.starts.proofs.back.count_starts.Goals as goal
 
 pub flags_at_end-flags-requires : goal.flags_at_end-flags-requires
@@ -24,9 +21,9 @@ loop-s-init c = let A = c.args in (
 
 pub look_back-seen-requires : goal.look_back-seen-requires
 look_back-seen-requires c = record {
-      ready = c.requires;
-      pass = (record { come = omega arith; inside = c.loop-s.invariant.0.inside; cheap = c.loop-s.invariant.0.cheap; flagged = c.loop-s.invariant.0.flagged }, omega arith);
-    }
+  ready = c.requires;
+  pass = (record { come = omega arith; inside = c.loop-s.invariant.0.inside; cheap = c.loop-s.invariant.0.cheap; flagged = c.loop-s.invariant.0.flagged }, omega arith);
+}
 
 pub overflow_add-count : goal.overflow_add-count
 overflow_add-count c = let A = c.args in

@@ -1,16 +1,8 @@
-use borrow.Author.Rules.{rules}
-use mathlib.Core.Path.{◌≡◌, ap, sym, ◌∙◌}
-use mathlib.Core.Bool.{true, false}
-use Prim.Native.Nat.{ℕ}
-use native.Mathlib.Omega.{arith}
+use mathlib.Core.Path.{◌≡◌}
 use lib.ListN.{length}
 use Rattle.ahead.specs.Ahead.{lent}
 use Rattle.ahead.specs.Ahead.{starts_from}
 use Rattle.starts.specs.Back.{Pass}
-use Rattle.ahead.proofs.AheadLaws.{flags-end}
-use Rattle.ahead.proofs.PlaceLaws.{starts-all, starts_none}
-use Rattle.starts.proofs.StartsLaws.{starts-back, starts-few}
-use borrow.Enum.Refused.{opened}
 use Rattle.starts.proofs.back.count_starts.Given as goal
 
 abbrev pub invariant-loop-s : goal.invariant-loop-s

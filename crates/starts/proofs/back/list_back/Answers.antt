@@ -1,4 +1,3 @@
-use borrow.Author.Rules.{rules}
 use mathlib.Core.Path.{◌≡◌, refl, ap, sym, ◌∙◌}
 use mathlib.Core.Bool.{true, false}
 use mathlib.Core.List.{List, ◌∷◌, ◌++◌, reverse, reverse-cons}
@@ -7,18 +6,16 @@ use native.Mathlib.Omega.{arith}
 use lib.ListN.{length, set, drop, length-set, length-reverse}
 use Rattle.ahead.specs.Ahead.{lent}
 use Rattle.ahead.specs.Ahead.{starts_from}
-use Rattle.starts.specs.Back.{Pass}
 use Rattle.ahead.proofs.AheadLaws.{flags-end}
 use Rattle.ahead.proofs.PlaceLaws.{starts-all, starts_none}
 use Rattle.starts.proofs.StartsLaws.{starts-back, starts-less}
 use Rattle.starts.proofs.BackLaws.{set_next}
-use borrow.Enum.Refused.{opened}
 use Rattle.starts.proofs.back.list_back.Goals as goal
 use Rattle.starts.proofs.back.list_back.Goals.{Then-seen}
 
 -- the starts from s - 1 on, at a start
-one : (c : Then-seen) → let L = c.before.before.before.before.before in let A = c.args in
-    starts_from (lent A.rows A.marks.now A.cells.now) A.text.now (L.loop-s.s - 1) ≡ (L.loop-s.s - 1) ∷ starts_from (lent A.rows A.marks.now A.cells.now) A.text.now L.loop-s.s
+one : (c : Then-seen) → let A = c.args in
+    starts_from (lent A.rows A.marks.now A.cells.now) A.text.now (c.loop-s.s - 1) ≡ (c.loop-s.s - 1) ∷ starts_from (lent A.rows A.marks.now A.cells.now) A.text.now c.loop-s.s
 one c =
     let A = c.args in
     starts-back (lent A.rows A.marks.now A.cells.now) A.text.now c.loop-s.s true c.loop-s-test.true (omega arith) (sym c.look_back-seen.ensures.answer ∙ c.if-seen.true)
@@ -46,9 +43,9 @@ loop-s-init c = let A = c.args in (
 
 pub look_back-seen-requires : goal.look_back-seen-requires
 look_back-seen-requires c = record {
-      ready = c.requires.ready;
-      pass = (record { come = omega arith; inside = c.loop-s.invariant.0.inside; cheap = c.loop-s.invariant.0.cheap; flagged = c.loop-s.invariant.0.flagged }, omega arith);
-    }
+  ready = c.requires.ready;
+  pass = (record { come = omega arith; inside = c.loop-s.invariant.0.inside; cheap = c.loop-s.invariant.0.cheap; flagged = c.loop-s.invariant.0.flagged }, omega arith);
+}
 
 pub offset_bounds-list-count : goal.offset_bounds-list-count
 offset_bounds-list-count c = omega (arith, room (goal.at.offset_bounds-list-count c).Then-seen)
@@ -84,7 +81,7 @@ returns c = let A = c.args in
     let w = lent A.rows A.marks.now A.cells.now in
     let z : c.loop-s.s ≡ 0 = omega arith in
     let e = ap (starts_from w A.text.now) z ∙ sym (starts-all w A.text.now) in
- record {
+    record {
       value = c.loop-s.invariant.1.0 ∙ ap length e;
       list_after = c.loop-s.invariant.1.1.1 ∙ ap (λ (l : List ℕ). reverse l ++ drop c.loop-s.count A.list.now) e;
     }

@@ -1,18 +1,9 @@
-use borrow.Author.Rules.{rules}
-use mathlib.Core.Path.{◌≡◌, refl, ap, sym, ◌∙◌}
-use mathlib.Core.Bool.{true, false}
-use mathlib.Core.List.{List, ◌∷◌, ◌++◌, reverse, reverse-cons}
-use Prim.Native.Nat.{ℕ, ◌+◌, ◌-◌, ◌<◌}
-use native.Mathlib.Omega.{arith}
-use lib.ListN.{length, set, drop, length-set, length-reverse}
+use mathlib.Core.Path.{◌≡◌}
+use mathlib.Core.List.{◌++◌, reverse}
+use lib.ListN.{length, drop}
 use Rattle.ahead.specs.Ahead.{lent}
 use Rattle.ahead.specs.Ahead.{starts_from}
 use Rattle.starts.specs.Back.{Pass}
-use Rattle.ahead.proofs.AheadLaws.{flags-end}
-use Rattle.ahead.proofs.PlaceLaws.{starts-all, starts_none}
-use Rattle.starts.proofs.StartsLaws.{starts-back, starts-less}
-use Rattle.starts.proofs.BackLaws.{set_next}
-use borrow.Enum.Refused.{opened}
 use Rattle.starts.proofs.back.list_back.Given as goal
 
 abbrev pub invariant-loop-s : goal.invariant-loop-s

@@ -7,7 +7,6 @@ use Rattle.ahead.specs.Ahead.{lent}
 use Rattle.starts.proofs.StartsLaws.{starts-most}
 use Rattle.starts.proofs.BackLaws.{front-turned}
 use borrow.Author.Rules.{rules}
-use borrow.Enum.Refused.{opened}
 use Rattle.starts.proofs.back.list_starts.Goals as goal
 
 pub slice_bounds-turn-end-2 : goal.slice_bounds-turn-end-2
@@ -19,7 +18,7 @@ overflow_cast-result c = let A = c.args in
 
 pub returns : goal.returns
 returns c = let A = c.args in
- record {
+    record {
       value = c.list_back-count.ensures.value;
       list_after = front-turned (starts (lent A.rows A.marks.now A.cells.now) A.text.now) (drop c.list_back-count.result A.list.now) c.list_back-count.ensures.value c.list_back-count.ensures.list_after c.turn.ensures;
     }

@@ -6,8 +6,6 @@ use lib.ListN.{drop}
 use Rattle.rules.specs.Sizes.{rows_most, text_most}
 use Rattle.rules.proofs.TableLaws.{read_none}
 use Rattle.ahead.specs.Ahead.{lent, ahead}
-use borrow.Author.Rules.{rules}
-use borrow.Enum.Refused.{opened}
 use Rattle.starts.proofs.back.look_back.Goals as goal
 
 -- what new flags cost is bounded
@@ -16,14 +14,14 @@ bounded h i = mul-le-mul h i
 
 pub look-walk-requires : goal.look-walk-requires
 look-walk-requires c = record {
-      ready = c.requires.ready;
-      stretch = record {
+  ready = c.requires.ready;
+  stretch = record {
     row = (read_none c.requires.ready.well.formed c.args.text.now c.args.s (omega arith) (c.begin-q.ensures c.args.marks.now c.args.cells.now)).row;
     forward = c.requires.pass.1;
     inside = c.requires.pass.0.inside;
     flagged = c.requires.pass.0.flagged;
   };
-    }
+}
 
 pub overflow_add-sum : goal.overflow_add-sum
 overflow_add-sum c = omega (arith, c.look-walk.ensures.few)
@@ -33,9 +31,9 @@ overflow_mul-rows c = omega (arith, bounded {a = c.args.rows.count} {b = c.args.
 
 pub flags_before-earlier-requires : goal.flags_before-earlier-requires
 flags_before-earlier-requires c = record {
-      ready = c.requires.ready;
-      stretch = record { row = omega arith; forward = c.requires.pass.1; inside = c.requires.pass.0.inside; flagged = c.requires.pass.0.flagged };
-    }
+  ready = c.requires.ready;
+  stretch = record { row = omega arith; forward = c.requires.pass.1; inside = c.requires.pass.0.inside; flagged = c.requires.pass.0.flagged };
+}
 
 pub returns-then-rows-to : goal.returns-then-rows-to
 returns-then-rows-to c = let A = c.args in

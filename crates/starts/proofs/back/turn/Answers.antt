@@ -1,9 +1,6 @@
-use borrow.Author.Rules.{rules}
-use Prim.Native.Nat.{◌-◌, ◌/◌}
 use native.Mathlib.Omega.{arith}
 use lib.Seq.{lt-length-set}
-use Rattle.starts.proofs.BackLaws.{Turned, turned_none, turned_more, turned-all}
-use borrow.Enum.Refused.{opened}
+use Rattle.starts.proofs.BackLaws.{turned_none, turned_more, turned-all}
 use Rattle.starts.proofs.back.turn.Goals as goal
 
 pub loop-i-init : goal.loop-i-init

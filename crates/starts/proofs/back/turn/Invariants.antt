@@ -1,9 +1,5 @@
-use borrow.Author.Rules.{rules}
 use Prim.Native.Nat.{◌-◌, ◌/◌}
-use native.Mathlib.Omega.{arith}
-use lib.Seq.{lt-length-set}
-use Rattle.starts.proofs.BackLaws.{Turned, turned_none, turned_more, turned-all}
-use borrow.Enum.Refused.{opened}
+use Rattle.starts.proofs.BackLaws.{Turned}
 use Rattle.starts.proofs.back.turn.Given as goal
 
 abbrev pub invariant-loop-i : goal.invariant-loop-i

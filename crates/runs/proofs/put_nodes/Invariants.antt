@@ -1,0 +1,16 @@
+use borrow.Author.Rules.{rules}
+use mathlib.Core.Path.{◌≡◌, ◌∙◌}
+use mathlib.Core.Logic.{⊎_elim}
+use Prim.Native.Nat.{◌-◌, ◌≤◌}
+use native.Mathlib.Omega.{arith}
+use lib.ListN.{length}
+use Rattle.runs.specs.Runs.{MaskedTo}
+use Rattle.runs.proofs.Masks.{masked-none, masked-in, masked-out, runs-are}
+use borrow.Enum.Refused.{opened}
+use Rattle.runs.proofs.put_nodes.Given as goal
+
+abbrev pub invariant-loop-u : goal.invariant-loop-u
+invariant-loop-u l = (l.u ≤ length l.kind) × ((length l.masks ≡ length l.initial.masks) × MaskedTo l.u l.program l.kind l.atom l.starts l.masks l.runs)
+
+abbrev pub decreases-loop-u : goal.decreases-loop-u
+decreases-loop-u l = length l.kind - l.u
