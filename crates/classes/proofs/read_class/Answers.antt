@@ -4,8 +4,6 @@ use Rattle.rules.specs.Reader.{class}
 use Rattle.classes.specs.Classes.{class_of}
 use Rattle.signs.proofs.Places.{read_some, read_none, stands, not_there, onward}
 use Rattle.classes.proofs.ClassLaws.{none_left, some_left}
-use borrow.Author.Rules.{rules}
-use borrow.Enum.Refused.{opened}
 use Rattle.classes.proofs.read_class.Goals as goal
 
 -- `read_class`

@@ -8,8 +8,6 @@ use Rattle.bytesets.specs.ByteSets.{bytes_of}
 use Rattle.classes.specs.Classes.{added_to}
 use Rattle.signs.proofs.Places.{read_some, read_none, onward}
 use Rattle.classes.proofs.ClassLaws.{item-member, item-name}
-use borrow.Author.Rules.{rules}
-use borrow.Enum.Refused.{opened}
 use Rattle.classes.proofs.read_item.Goals as goal
 
 -- `read_item`

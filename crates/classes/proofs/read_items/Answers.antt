@@ -1,15 +1,8 @@
 use mathlib.Core.Path.{sym, ap}
-use mathlib.Core.List.{List}
-use mathlib.Core.Option.{Option}
-use Prim.Native.Nat.{ℕ, ◌-◌, ◌≤◌}
 use native.Mathlib.Omega.{arith}
-use lib.ListN.{length}
-use Rattle.bytesets.specs.ByteSets.{bytes_of}
 use Rattle.classes.specs.Classes.{class_of}
 use Rattle.signs.proofs.Places.{read_some, read_none, stands, not_there}
-use Rattle.classes.proofs.ClassLaws.{ItemsFrom, items-bad, items-end, items_more, items-whole}
-use borrow.Author.Rules.{rules}
-use borrow.Enum.Refused.{opened}
+use Rattle.classes.proofs.ClassLaws.{items-bad, items-end, items_more, items-whole}
 use Rattle.classes.proofs.read_items.Goals as goal
 
 pub items-init : goal.items-init

@@ -5,8 +5,6 @@ use lib.ListN.{get_or}
 use Rattle.rules.specs.Reader.{member}
 use Rattle.signs.proofs.Places.{here, at-end, onward}
 use Rattle.classes.proofs.ClassLaws.{is-bare, no_member}
-use borrow.Author.Rules.{rules}
-use borrow.Enum.Refused.{opened}
 use Rattle.classes.proofs.read_member.Goals as goal
 
 -- `read_member`

@@ -8,8 +8,6 @@ use Rattle.signs.specs.Answers.{byte_of}
 use Rattle.bytesets.specs.ByteSets.{bytes_of}
 use Rattle.signs.proofs.Places.{read_some, read_none, stands, not_there}
 use Rattle.classes.proofs.ClassLaws.{one_byte}
-use borrow.Author.Rules.{rules}
-use borrow.Enum.Refused.{opened}
 use Rattle.classes.proofs.read_range.Goals as goal
 
 -- `read_range`

@@ -1,13 +1,10 @@
 use mathlib.Core.Path.{◌≡◌, sym, ap, ◌∙◌}
 use mathlib.Core.Option.{some}
-use Prim.Native.Nat.{ℕ, ◌+◌, ◌-◌, ◌≤◌}
+use Prim.Native.Nat.{ℕ, ◌+◌}
 use native.Mathlib.Nat.{add-zero}
 use native.Mathlib.Omega.{arith}
 use lib.ListN.{length, drop, length-drop}
-use Rattle.rules.specs.Reader.{past_all}
 use Rattle.classes.proofs.ClassLaws.{too_short, spelled-on, spelled-off, spelled_out}
-use borrow.Author.Rules.{rules}
-use borrow.Enum.Refused.{opened}
 use Rattle.classes.proofs.spells.Goals as goal
 
 pub overflow_sub-p : goal.overflow_sub-p

@@ -3,7 +3,6 @@ use mathlib.Core.Path.{refl, sym}
 use native.Mathlib.Omega.{arith}
 use lib.ListN.{length-take}
 use Rattle.lines.proofs.Inputs.{line-end-dropped, no-line-end, nothing_left}
-use borrow.Enum.Refused.{opened}
 use Rattle.lines.proofs.pattern_of.Goals as goal
 
 -- `pattern_of` meets its contract: in each case the part begins where the input does.
@@ -15,7 +14,7 @@ slice_bounds-result-end c = simp length-take (omega arith)
 
 pub returns-then-input-last-eq10 : goal.returns-then-input-last-eq10
 returns-then-input-last-eq10 c =
-    record { block = refl; place = omega arith; bytes = sym (line-end-dropped c.args.input.now _ (omega arith) c.if-input-last-eq10.taken) }
+    record { block = refl; place = omega arith; bytes = sym (line-end-dropped c.args.input.now _ (omega arith) c.if-input-last-eq10.true) }
 
 pub returns : goal.returns
 returns c =

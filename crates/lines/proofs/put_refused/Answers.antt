@@ -1,10 +1,8 @@
-use borrow.Author.Rules.{rules}
 use Prim.Native.Nat.{◌+◌, ◌^◌, ◌<◌}
 use native.Mathlib.Omega.{arith}
 use lib.ListN.{length, length-append}
 use Rattle.rules.specs.Listing.{decimal, listing}
 use Rattle.writing.proofs.Writings.{join}
-use borrow.Enum.Refused.{opened}
 use Rattle.lines.proofs.put_refused.Goals as goal
 use Rattle.lines.proofs.put_refused.Goals.{Start}
 

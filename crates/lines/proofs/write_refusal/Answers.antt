@@ -1,6 +1,4 @@
-use borrow.Author.Rules.{rules}
 use Rattle.rules.specs.Listing.{listing}
-use borrow.Enum.Refused.{opened}
 use Rattle.lines.proofs.write_refusal.Goals as goal
 
 -- `write_refusal` meets its contract: the line of a refusal is that of its number and its place.

@@ -2,7 +2,6 @@ use borrow.Author.Rules.{rules}
 use native.Mathlib.Omega.{arith}
 use Rattle.writing.proofs.Answered.{written-shown}
 use Rattle.lines.proofs.LineLaws.{refused-most}
-use borrow.Enum.Refused.{opened}
 use Rattle.lines.proofs.write_refused.Goals as goal
 
 -- `write_refused` meets its contract: the line as it was written, and the answer for its length.

@@ -23,7 +23,7 @@ loop-k-preserved c =
     let B = c.has.ensures in
     ⊎_elim
     (λ x. (omega arith, rw x.masks-is (putting-in c.loop-k.invariant.1 few _ (sym B ∙ x.if-has.true) (omega (arith, c.loop-k.invariant.1.put.long)) (x.put_in.ensures.0 ∙ part-long c.loop-k.masks c.loop-k.k words_a_row (omega (arith, c.loop-k.invariant.1.put.long))) x.put_in.ensures.1)))
-    (λ x. (omega arith, rw x.masks-is (putting-out c.loop-k.invariant.1 few (sym B ∙ x.0.left))))
+    (λ x. (omega arith, rw x.masks-is (putting-out c.loop-k.invariant.1 few (sym B ∙ x.if-has.false))))
     c.if-has.branch-raw
 
 pub returns : goal.returns

@@ -30,7 +30,7 @@ loop-u-preserved c =
     let args = c.args in
     ⊎_elim
     (λ x. (omega arith, rw x.masks-is (x.put_node.ensures.long ∙ c.loop-u.invariant.1.0, masked-in args.program.now args.kind.now args.atom.now args.starts.now args.runs c.loop-u.masks c.loop-u.u c.loop-u.invariant.1.1 (search rules) x.if-kind-u-eq-BYTES.true x.atom_set.ensures x.put_node.ensures)))
-    (λ x. (omega arith, rw x.masks-is (c.loop-u.invariant.1.0, masked-out args.program.now args.kind.now args.atom.now args.starts.now args.runs c.loop-u.masks c.loop-u.u c.loop-u.invariant.1.1 x.0.left)))
+    (λ x. (omega arith, rw x.masks-is (c.loop-u.invariant.1.0, masked-out args.program.now args.kind.now args.atom.now args.starts.now args.runs c.loop-u.masks c.loop-u.u c.loop-u.invariant.1.1 x.if-kind-u-eq-BYTES.false)))
     c.if-kind-u-eq-BYTES.branch-raw
 
 pub shape_of-masks : goal.shape_of-masks
