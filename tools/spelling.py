@@ -47,7 +47,7 @@ def respell(text, rust, first):
 def main():
     texts = {}
     for path in sorted(glob.glob("crates/*/**/*", recursive=True)):
-        if path.endswith((".antt", ".rt", ".edit")):
+        if "/out/" not in path and path.endswith((".antt", ".rt", ".edit")):
             with open(path, encoding="utf-8") as file:
                 texts[path] = file.read()
     # The definitions are in snake case from the second run on, so what is spelled like them then is no lemma.

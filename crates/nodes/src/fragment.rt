@@ -93,7 +93,7 @@ fn combine(
 }
 
 // The part that ends at `end`: down its left parts to the last, which is built first, and then up again, past each right part.
-#[cycle(build_after_build_around_build_bottom_build_copies_build_copy_build_part_build_repeat)]
+#[cycle(building)]
 pub fn build_part(
     program: &[u64],
     end: usize,
@@ -157,7 +157,7 @@ pub fn build_part(
 }
 
 // A part that is no row and no choice.
-#[cycle(build_after_build_around_build_bottom_build_copies_build_copy_build_part_build_repeat)]
+#[cycle(building)]
 fn build_bottom(
     program: &[u64],
     end: usize,
@@ -185,7 +185,7 @@ fn build_bottom(
 }
 
 // A part from the node after `before` on.
-#[cycle(build_after_build_around_build_bottom_build_copies_build_copy_build_part_build_repeat)]
+#[cycle(building)]
 fn build_after(
     program: &[u64],
     end: usize,
@@ -208,7 +208,7 @@ fn build_after(
 }
 
 // A repeat: S to X's start, X's end to E; perhaps S to E, and perhaps X's end back to X's start.
-#[cycle(build_after_build_around_build_bottom_build_copies_build_copy_build_part_build_repeat)]
+#[cycle(building)]
 fn build_around(
     program: &[u64],
     end: usize,
@@ -244,7 +244,7 @@ fn build_around(
 }
 
 // Copies that are still to be built: of X, and then of a repeat of X that may be skipped.
-#[derive(Drop)]
+#[derive(Clone, Copy)]
 struct Copies {
     plain: u16,
     extra: u16,
@@ -279,7 +279,7 @@ impl Copies {
 }
 
 // A part with a repeat sign.
-#[cycle(build_after_build_around_build_bottom_build_copies_build_copy_build_part_build_repeat)]
+#[cycle(building)]
 fn build_repeat(
     program: &[u64],
     end: usize,
@@ -319,7 +319,7 @@ fn build_repeat(
 }
 
 // The next of the copies.
-#[cycle(build_after_build_around_build_bottom_build_copies_build_copy_build_part_build_repeat)]
+#[cycle(building)]
 fn build_copy(
     program: &[u64],
     end: usize,
@@ -344,7 +344,7 @@ fn build_copy(
 }
 
 // Copies in a row; none of them is one empty branch.
-#[cycle(build_after_build_around_build_bottom_build_copies_build_copy_build_part_build_repeat)]
+#[cycle(building)]
 fn build_copies(
     program: &[u64],
     end: usize,

@@ -11,7 +11,7 @@ use signs::count::Repeat;
 // The longest program: at most two words for each byte of a pattern, and one.
 pub const PROGRAM_MOST: usize = 2 * PATTERN_MOST + 1;
 
-#[derive(Drop)]
+#[derive(Clone, Copy)]
 pub enum Op {
     Nothing,
     Head,

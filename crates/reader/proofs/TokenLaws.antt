@@ -107,6 +107,7 @@ one_of f k [] x h e = rw e (first (f k) h)
   where
     first : (b : Bool) → T (elim b [ true ↦ true | false ↦ false ]) → b ≡ true
     first true h = refl
+    first false h = elim h [ ]
 one_of f k (j ∷ ks) x h e = go (f k) refl h e (one_of f j ks x)
   where
     go : (b : Bool) → f k ≡ b → T (elim b [ true ↦ all f (j ∷ ks) | false ↦ false ]) → OneOf (k ∷ j ∷ ks) x → (T (all f (j ∷ ks)) → OneOf (j ∷ ks) x → f x ≡ true) → f x ≡ true

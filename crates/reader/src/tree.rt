@@ -111,7 +111,7 @@ fn read_single(p: &[u8], at: usize, first: Sign, program: &mut [u64], n: usize) 
     }
 }
 
-#[cycle(read_atom_read_branch_read_branches_read_piece)]
+#[cycle(reading)]
 fn read_atom(p: &[u8], at: usize, groups: u16, program: &mut [u64], n: usize) -> Got
     requires { Asks atom p.now at groups n program.old }
     ensures { Told atom p.now at groups n program.old program.new result }
@@ -136,7 +136,7 @@ fn read_atom(p: &[u8], at: usize, groups: u16, program: &mut [u64], n: usize) ->
 }
 
 // An atom with at most one repeat sign after it.
-#[cycle(read_atom_read_branch_read_branches_read_piece)]
+#[cycle(reading)]
 fn read_piece(p: &[u8], at: usize, groups: u16, program: &mut [u64], n: usize) -> Got
     requires { Asks piece p.now at groups n program.old }
     ensures { Told piece p.now at groups n program.old program.new result }
@@ -152,7 +152,7 @@ fn read_piece(p: &[u8], at: usize, groups: u16, program: &mut [u64], n: usize) -
 }
 
 // Pieces in a row, up to a `|`, a `)` or the end.
-#[cycle(read_atom_read_branch_read_branches_read_piece)]
+#[cycle(reading)]
 fn read_branch(p: &[u8], from: usize, groups: u16, program: &mut [u64], start: usize) -> Got
     requires { Asks branch p.now from groups start program.old }
     ensures { Told branch p.now from groups start program.old program.new result }
@@ -189,7 +189,7 @@ fn read_branch(p: &[u8], from: usize, groups: u16, program: &mut [u64], start: u
 }
 
 // Branches parted by `|`, up to the `)` of a group or the end.
-#[cycle(read_atom_read_branch_read_branches_read_piece)]
+#[cycle(reading)]
 pub fn read_branches(p: &[u8], from: usize, groups: u16, program: &mut [u64], start: usize) -> Got
     requires { Asks pattern p.now from groups start program.old }
     ensures { Told pattern p.now from groups start program.old program.new result }

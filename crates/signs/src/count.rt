@@ -16,7 +16,7 @@ pub enum Number {
 }
 
 // A repeat sign.
-#[derive(Drop)]
+#[derive(Clone, Copy)]
 pub enum Repeat {
     Star,
     Plus,

@@ -1,35 +1,28 @@
 use mathlib.Core.Path.{◌≡◌, refl, ◌∙◌, subst}
 use Prim.Native.Nat.{suc, ◌+◌, ◌-◌, ◌≤◌}
-use borrow.Author.Rules.{rules}
 use native.Mathlib.Omega.{arith}
 use lib.ListN.{length, length-set}
 use Rattle.program.specs.Program.{program_most, operation_at}
 use Rattle.spine.specs.Parts.{Part}
-use Rattle.spine.specs.Spine.{Splits, Down}
+use Rattle.spine.specs.Spine.{Splits}
 use Rattle.spine.proofs.PartLaws.{nonempty}
 use Rattle.spine.proofs.SpineLaws.{Reached, reached, parted, down-more}
-use borrow.Enum.Refused.{opened}
 use Rattle.spine.proofs.descend.Goals as goal
-use Rattle.spine.proofs.descend.Goals.{At-down, In-Part, In-Part-2}
+use Rattle.spine.proofs.descend.Goals.{At-down, In-Part}
 
 -- where the loop has come to
-here : (c : At-down) → let S = c.before.before.before.before in
-    Reached S.args.program.now c.down.passed S.args.end S.args.base.0 c.down.at c.down.start.0 S.requires.0
-here c = let S = c.before.before.before.before in
-    reached S.args.program.now c.down.spine c.down.passed S.args.end S.args.base.0 c.down.at c.down.start.0 S.requires.1 c.down.invariant.0 S.requires.0
-
--- the way to the left part
-split : (c : In-Part-2) → let W = c.before.before.before.before.before in
-    let i = W.down.at - 1 in Splits (operation_at W.args.program.now i) i W.down.start.0 c.in-Part.left_end c.in-Part.left_start.0
-split c = rw (c.in-Part.is, c.operation.ensures) at c.left_of.ensures
+here : (c : At-down) → Reached c.args.program.now c.down.passed c.args.end c.args.base.0 c.down.at c.down.start.0 c.requires.0
+here c = reached c.args.program.now c.down.spine c.down.passed c.args.end c.args.base.0 c.down.at c.down.start.0 c.requires.1 c.down.invariant.0 c.requires.0
 
 -- there is room for one more
-within : (c : In-Part) → let W = c.before.before.before.before.before.before.before in
-    (1 ≤ W.down.at) × (W.down.at + W.down.passed ≤ length W.down.spine) × (W.down.at ≤ program_most)
+within : (c : At-down) → (1 ≤ c.down.at) × (c.down.at + c.down.passed ≤ length c.down.spine) × (c.down.at ≤ program_most)
 within c =
-    let W = c.before.before.before.before.before.before.before in
-    let S = W.before.before.before in
-    (nonempty (here W).part, omega (arith, (here W).room, S.requires.2, W.down.invariant.1), omega (arith, (here W).room, S.requires.3))
+    let H = here c in
+    (nonempty H.part, omega (arith, H.room, c.requires.2, c.down.invariant.1), omega (arith, H.room, c.requires.3))
+
+-- the way to the left part
+split : (c : In-Part) → Splits (operation_at c.args.program.now (c.down.at - 1)) (c.down.at - 1) c.down.start.0 c.in-Part.left_end c.in-Part.left_start.0
+split c = rw c.operation.ensures at c.in-Part.ensures
 
 pub down-init : goal.down-init
 down-init c = ((refl, refl), refl)
@@ -50,25 +43,24 @@ left_of-requires c =
     (rw c.operation.ensures (λ e. (parted (omega (arith, H.room)) e (subst (Part c.args.program.now) q H.part)).fits), omega (arith, H.near, H.room))
 
 pub overflow_cast-spine : goal.overflow_cast-spine
-overflow_cast-spine c = omega (arith, within (goal.at.overflow_cast-spine c).In-Part)
+overflow_cast-spine c = omega (arith, within (goal.at.overflow_cast-spine c).At-down)
 
 pub offset_bounds-spine-passed : goal.offset_bounds-spine-passed
-offset_bounds-spine-passed c = omega (arith, within (goal.at.offset_bounds-spine-passed c).In-Part)
+offset_bounds-spine-passed c = omega (arith, within (goal.at.offset_bounds-spine-passed c).At-down)
 
 pub bounds-spine-passed : goal.bounds-spine-passed
-bounds-spine-passed c = omega (arith, within (goal.at.bounds-spine-passed c).In-Part)
+bounds-spine-passed c = omega (arith, within (goal.at.bounds-spine-passed c).At-down)
 
 pub overflow_add-passed : goal.overflow_add-passed
-overflow_add-passed c = omega (arith, within (goal.at.overflow_add-passed c).In-Part)
+overflow_add-passed c = omega (arith, within (goal.at.overflow_add-passed c).At-down)
 
 pub down-smaller : goal.down-smaller
-down-smaller c = omega (arith, within (goal.at.down-smaller c).In-Part, (split (goal.at.down-smaller c).In-Part-2).ends)
+down-smaller c = omega (arith, within (goal.at.down-smaller c).At-down, (split c).ends)
 
 pub down-preserved : goal.down-preserved
 down-preserved c =
-    let A = c.args in
-    let i : 1 ≤ c.down.at = omega (arith, within (goal.at.down-preserved c).In-Part) in
-    let D = down-more A.program.now c.down.spine c.down.passed A.end A.base.0 c.down.at (omega (arith, within (goal.at.down-preserved c).In-Part)) i c.down.invariant.0 (split (goal.at.down-preserved c).In-Part-2) in
+    let W = within (goal.at.down-preserved c).At-down in
+    let D = down-more c.args.program.now c.down.spine c.down.passed c.args.end c.args.base.0 c.down.at (omega arith) W.0 c.down.invariant.0 (split c) in
     (D, length-set c.down.spine c.down.passed (c.down.at - 1) ∙ c.down.invariant.1)
 
 pub shape_of-spine : goal.shape_of-spine

@@ -1,14 +1,6 @@
-use mathlib.Core.Path.{◌≡◌, refl, ◌∙◌, subst}
-use Prim.Native.Nat.{suc, ◌+◌, ◌-◌, ◌≤◌}
-use borrow.Author.Rules.{rules}
-use native.Mathlib.Omega.{arith}
-use lib.ListN.{length, length-set}
-use Rattle.program.specs.Program.{program_most, operation_at}
-use Rattle.spine.specs.Parts.{Part}
-use Rattle.spine.specs.Spine.{Splits, Down}
-use Rattle.spine.proofs.PartLaws.{nonempty}
-use Rattle.spine.proofs.SpineLaws.{Reached, reached, parted, down-more}
-use borrow.Enum.Refused.{opened}
+use mathlib.Core.Path.{◌≡◌}
+use lib.ListN.{length}
+use Rattle.spine.specs.Spine.{Down}
 use Rattle.spine.proofs.descend.Given as goal
 
 -- `descend`: what is passed so far leads from the part that ends at `end` to the one that ends at `at`. The measure is `at`.

@@ -1,5 +1,4 @@
 use mathlib.Core.Path.{refl}
-use borrow.Author.Rules.{rules}
 use native.Mathlib.Omega.{arith}
 use Rattle.spine.proofs.SpineLaws.{no-two}
 use borrow.Enum.Refused.{opened}

@@ -1,5 +1,4 @@
 use mathlib.Core.Path.{ap}
-use borrow.Author.Rules.{rules}
 use native.Mathlib.Omega.{arith}
 use Rattle.spine.specs.Spine.{joint}
 use Rattle.spine.proofs.SpineLaws.{no_row}

@@ -1,0 +1,21 @@
+use borrow.Author.Rules.{rules}
+use mathlib.Core.Path.{◌≡◌, sym, ◌∙◌}
+use Prim.Native.Nat.{◌-◌, ◌≤◌}
+use native.Mathlib.Omega.{arith}
+use lib.ListN.{length, drop}
+use Rattle.rules.specs.Tools.{same}
+use Rattle.findings.proofs.ByPlace.{same-on, same-apart, same_over}
+use borrow.Enum.Refused.{opened}
+use Rattle.findings.proofs.tables.same_cells.Goals as goal
+
+pub returns-then-cells-i : goal.returns-then-cells-i
+returns-then-cells-i c =
+    sym (c.loop-i.invariant.1 ∙ same-apart c.args.cells.now c.args.others.now c.requires c.loop-i.i (omega arith) c.if-cells-i.true)
+
+pub loop-i-preserved : goal.loop-i-preserved
+loop-i-preserved c =
+    (search rules, c.loop-i.invariant.1 ∙ same-on c.args.cells.now c.args.others.now c.requires c.loop-i.i (omega arith) c.if-cells-i.false)
+
+pub returns : goal.returns
+returns c =
+    sym (c.loop-i.invariant.1 ∙ same_over c.args.cells.now c.args.others.now c.requires c.loop-i.i (omega arith))

@@ -1,0 +1,17 @@
+use borrow.Author.Rules.{rules}
+use mathlib.Core.Path.{refl, sym, ◌∙◌}
+use Prim.Native.Nat.{◌-◌}
+use native.Mathlib.Omega.{arith}
+use lib.ListN.{length}
+use Rattle.stretches.proofs.StretchLaws.{many-few}
+use Rattle.settling.proofs.RoundsLaws.{Rounds, first_round, to-round, next-round, all_settled}
+use borrow.Enum.Refused.{opened}
+use Rattle.settling.proofs.settle.Given as goal
+
+abbrev pub invariant-loop-from : goal.invariant-loop-from
+invariant-loop-from l =
+    Rounds l.cells l.bytes l.preds l.initial.class l.order l.place l.class l.start l.end l.seen l.prior l.last l.firsts l.links l.touched (length l.initial.order) l.total l.from
+
+abbrev pub decreases-loop-from : goal.decreases-loop-from
+decreases-loop-from l =
+    length l.initial.order - l.from
