@@ -15,7 +15,7 @@ use Rattle.first.proofs.AnswerLaws.{first-within, cut, hands-back}
 use borrow.Author.Rules.{rules}
 use borrow.Enum.Refused.{opened}
 use Rattle.first.proofs.first_part.Goals as goal
-use Rattle.first.proofs.first_part.Goals.{After-find-found, Else-not-well_formed, In-Match-2, Start}
+use Rattle.first.proofs.first_part.Goals.{After-find-found, Else-not-well_formed, In-Match, Start}
 
 abbrev table : Start → Table
 table S = table_of S.args.rows S.args.head.0 S.args.marks.now S.args.cells.now
@@ -27,8 +27,8 @@ formed c = sym c.well_formed-2.ensures ∙ not-false _ c.if-not-well_formed.fals
 found : (c : After-find-found) → found_of c.find-found.result ≡ first (table c.before.before.before.before.before.before.before.before) c.args.text.now
 found c = c.find-found.ensures
 
-within : (c : In-Match-2) → (c.in-Match.s ≤ c.in-Match.e) × (c.in-Match.e ≤ length c.args.text.now)
-within c = first-within _ _ _ _ (sym (found c.before.before.before) ∙ ap found_of c.in-Match.is)
+within : (c : In-Match) → (c.in-Match.s ≤ c.in-Match.e) × (c.in-Match.e ≤ length c.args.text.now)
+within c = first-within _ _ _ _ (sym c.find-found.ensures ∙ ap found_of c.in-Match.is)
 
 pub returns-then-not-well_formed : goal.returns-then-not-well_formed
 unfolding part_answer first_answer part_of
@@ -45,7 +45,7 @@ find-found-requires c = record {
     }
 
 pub slice_bounds-result-count-in-Match : goal.slice_bounds-result-count-in-Match
-slice_bounds-result-count-in-Match c = (within (goal.at.slice_bounds-result-count-in-Match c).In-Match-2).0
+slice_bounds-result-count-in-Match c = (within (goal.at.slice_bounds-result-count-in-Match c).In-Match).0
 
 pub returns-in-Match : goal.returns-in-Match
 unfolding part_answer first_answer part_of

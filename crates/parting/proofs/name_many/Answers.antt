@@ -41,7 +41,8 @@ slice_bounds-name_in-end-8 c =
 pub name_in-requires : goal.name_in-requires
 name_in-requires c =
     let n = length c.args.marks.now in
- let the-parts = (c.requires, to-name (take n (replicate rows_most 0)) (zeros-front n c.requires.1.few) c.requires.0 c.requires.1) in record { named = the-parts.0; lists = the-parts.1.0; scratch = the-parts.1.1 }
+    let room = to-name (take n (replicate rows_most 0)) (zeros-front n c.requires.1.few) c.requires.0 c.requires.1 in
+    record { named = c.requires; lists = room.0; scratch = room.1 }
 
 pub shape_of-preds : goal.shape_of-preds
 shape_of-preds c = c.name_in.auto.preds

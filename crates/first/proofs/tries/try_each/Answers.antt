@@ -24,7 +24,8 @@ answer c =
 passed : (c : Else-walk) → let A = c.args in let w = lent A.known A.marks.now A.cells.now in first w A.text.now ≡ first_from w A.text.now (c.loop-s.s + 1)
 passed c =
     let A = c.args in
-    c.loop-s.invariant.1.1.1 ∙ first-skip (lent A.known A.marks.now A.cells.now) A.text.now c.loop-s-test.true (sym (answer c.before.before) ∙ c.if-walk.false)
+    c.loop-s.invariant.1.1.1 ∙ first-skip (lent A.known A.marks.now A.cells.now) A.text.now c.loop-s-test.true 
+    (sym (c.look-walk.ensures.answer ∙ ap (λ (q : ℕ). ahead (lent A.known A.marks.now A.cells.now) q (drop c.loop-s.s A.text.now)) (c.begin-q.ensures A.marks.now A.cells.now)) ∙ c.if-walk.false)
 
 pub flags_at_end-flags-requires : goal.flags_at_end-flags-requires
 flags_at_end-flags-requires c = c.requires.well
