@@ -1,3 +1,4 @@
 pub mod TokenLaws
 pub mod SaysLaws
+pub mod GoingLaws
 pub mod ReadingLaws

@@ -113,6 +113,7 @@ one_of f k (j ∷ ks) x h e = go (f k) refl h e (one_of f j ks x)
     go : (b : Bool) → f k ≡ b → T (elim b [ true ↦ all f (j ∷ ks) | false ↦ false ]) → OneOf (k ∷ j ∷ ks) x → (T (all f (j ∷ ks)) → OneOf (j ∷ ks) x → f x ≡ true) → f x ≡ true
     go true q h (inl e) r = rw e q
     go true q h (inr e) r = r h e
+    go false q h _ r = elim h [ ]
 
 module _ (test : Token → Bool) (js : List ℕ) (law : (c : ℕ) (s : List ℕ) (g : rules.Sign) → test (token_of g c s) ≡ has_key js (number_of g)) where
   by-tag : (p : List ℕ) (i : ℕ) (r : Sign) → i < length p → sign_of r ≡ sign (get_or p i 0) → test (token (drop i p)) ≡ has_key js (tag r)

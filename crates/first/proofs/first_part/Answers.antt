@@ -44,8 +44,11 @@ find-found-requires c = record {
       text_len_bound = c.if-n-gt-TEXT_MOST.false;
     }
 
-pub slice_bounds-result-count-in-Match : goal.slice_bounds-result-count-in-Match
-slice_bounds-result-count-in-Match c = (within (goal.at.slice_bounds-result-count-in-Match c).In-Match).0
+pub slice_bounds-result-start-in-Match : goal.slice_bounds-result-start-in-Match
+slice_bounds-result-start-in-Match c = (within (goal.at.slice_bounds-result-start-in-Match c).In-Match).0
+
+pub slice_bounds-result-end-in-Match : goal.slice_bounds-result-end-in-Match
+slice_bounds-result-end-in-Match c = (within (goal.at.slice_bounds-result-end-in-Match c).In-Match).1
 
 pub returns-in-Match : goal.returns-in-Match
 unfolding part_answer first_answer part_of

@@ -1,116 +1,74 @@
-use mathlib.Core.Path.{◌≡◌, refl, sym, ap, ◌∙◌}
-use mathlib.Core.List.{List, [], ◌∷◌}
-use Prim.Native.Nat.{◌+◌, ◌*◌, ◌-◌, ◌≤◌, ◌<◌, ℕ}
-use borrow.Author.Rules.{rules}
+use mathlib.Core.Path.{refl, sym, ap, ◌∙◌}
+use mathlib.Core.List.{[], ◌∷◌}
 use native.Mathlib.Omega.{arith}
-use lib.ListN.{length, take}
 use Rattle.rules.specs.Signs.{opens_group, bar}
-use Rattle.rules.specs.Tree.{Tree, nothing, in_row, either, repeated}
+use Rattle.rules.specs.Tree.{nothing, in_row, either, repeated}
 use Rattle.signs.specs.Signs.{sign_of}
 use Rattle.signs.specs.Answers.{repeat_of}
-use Rattle.program.specs.Program.{Program}
-use Rattle.reader.specs.Says.{Answer, Mode, pieces, branches, Says}
 use Rattle.program.specs.declared.Op.TheVariants.{InRow, Either}
 use Rattle.signs.proofs.SignLaws.{not-sign}
 use Rattle.reader.proofs.TokenLaws.{token_end, token-of, on-within, close-here}
 use Rattle.program.proofs.ProgramKeeps.{wrote_one, wrote-sign, wrote-pair, kept-below}
 use Rattle.reader.proofs.SaysLaws.{atom-deep, group-refused, group-unclosed, group-closed, piece-refused, piece-once, piece-signed, piece-brace, branch-empty, branch-refused, branch-on, pieces-stop, pieces-refused, pieces-on, pattern-refused, pattern-on, branches-end, branches-out, branches-stray, branches-refused, branches-on}
-use Rattle.reader.proofs.tree.+read_atom_read_branch_read_branches_read_piece.{statement}
 use borrow.Enum.Refused.{opened}
 use Rattle.reader.proofs.tree.+reading.Goals as goal
 
--- HELPERS
--- The readers of the cycle. Each turn of a reading loop carries on from a tree that is written: what is read from here is read from there.
--- a reading loop that began at at₀ after the tree X₀ has come to `at`, with the program of its tree from `start` up to n
-record Going (g : Tree → Mode) (p : List ℕ) (d at₀ at start n : ℕ) (X₀ : Tree) (old new : List ℕ) : Type 0 where
-  tree : Tree
-  wrote : Program new tree start n
-  kept : take start new ≡ take start old
-  back : (r : Answer) → Says (g tree) p at d r → Says (g X₀) p at₀ d r
-
-abbrev μ-read-atom : Measures 2 read-atom-kinds.ps ℕ
-μ-read-atom κs a = 8 * (length a.0.now - a.1.0) + 1
-
-abbrev μ-read-branch : Measures 2 read-branch-kinds.ps ℕ
-μ-read-branch κs a = 8 * (length a.0.now - a.1.0) + 4
-
-abbrev μ-read-branches : Measures 2 read-branches-kinds.ps ℕ
-μ-read-branches κs a = 8 * (length a.0.now - a.1.0) + 6
-
-abbrev μ-read-piece : Measures 2 read-piece-kinds.ps ℕ
-μ-read-piece κs a = 8 * (length a.0.now - a.1.0) + 2
-
-abbrev read-atom-at : ℕ → In 2 read-atom-kinds.ps
-read-atom-at t = and 2 read-atom-kinds.ps (is 2 read-atom-kinds.ps μ-read-atom t) read-atom.Pre
-
-abbrev read-atom-below : ℕ → In 2 read-atom-kinds.ps
-read-atom-below t =
-    and 2 read-atom-kinds.ps (falls 2 read-atom-kinds.ps ◌<◌ μ-read-atom t) read-atom.Pre
-
-abbrev read-branch-at : ℕ → In 2 read-branch-kinds.ps
-read-branch-at t =
-    and 2 read-branch-kinds.ps (is 2 read-branch-kinds.ps μ-read-branch t) read-branch.Pre
-
-abbrev read-branch-below : ℕ → In 2 read-branch-kinds.ps
-read-branch-below t =
-    and 2 read-branch-kinds.ps (falls 2 read-branch-kinds.ps ◌<◌ μ-read-branch t) read-branch.Pre
-
-abbrev read-branches-at : ℕ → In 2 read-branches-kinds.ps
-read-branches-at t =
-    and 2 read-branches-kinds.ps (is 2 read-branches-kinds.ps μ-read-branches t) read-branches.Pre
-
-abbrev read-branches-below : ℕ → In 2 read-branches-kinds.ps
-read-branches-below t =
-    and
-    2
-    read-branches-kinds.ps
-    (falls 2 read-branches-kinds.ps ◌<◌ μ-read-branches t)
-    read-branches.Pre
-
-abbrev read-piece-at : ℕ → In 2 read-piece-kinds.ps
-read-piece-at t =
-    and 2 read-piece-kinds.ps (is 2 read-piece-kinds.ps μ-read-piece t) read-piece.Pre
-
-abbrev read-piece-below : ℕ → In 2 read-piece-kinds.ps
-read-piece-below t =
-    and 2 read-piece-kinds.ps (falls 2 read-piece-kinds.ps ◌<◌ μ-read-piece t) read-piece.Pre
-
-abbrev read-branch-Inv-reading : read-branch-lts.invariant-reading
-read-branch-Inv-reading p from groups program₀ start at₀ n₀ program at n = (from + 1 ≤ at) × (at ≤ length p) × (n + 2 * (length p - at) ≤ start + 2 * (length p - from)) × (length program ≡ length program₀) × (start + 1 ≤ n) × ((X : Tree) → Program program₀ X start n₀ → Going pieces p groups at₀ at start n X program₀ program)
-
-abbrev read-branch-μ-reading : read-branch-lts.decreases-reading
-read-branch-μ-reading p from groups program₀ start at₀ n₀ program at n = length p - at
-
-abbrev read-branches-Inv-reading : read-branches-lts.invariant-reading
-read-branches-Inv-reading p from groups program₀ start at₀ n₀ program at n = (from ≤ at) × (at ≤ length p) × (n + 2 * (length p - at) ≤ start + 2 * (length p - from) + 1) × (length program ≡ length program₀) × (start + 1 ≤ n) × ((X : Tree) → Program program₀ X start n₀ → Going branches p groups at₀ at start n X program₀ program)
-
-abbrev read-branches-μ-reading : read-branches-lts.decreases-reading
-read-branches-μ-reading p from groups program₀ start at₀ n₀ program at n = length p - at
-
 pub read_atom-returns-then-groups-ge-GROUPS_MOST : goal.read_atom-returns-then-groups-ge-GROUPS_MOST
-read_atom-returns-then-groups-ge-GROUPS_MOST t c = atom-deep (token-of c.args.p.now c.args.at opens_group (omega (arith, c.requires.1.within)) (sym (ap sign_of c.in-OpensGroup.is) ∙ c.sign_of.ensures)) c.if-groups-ge-GROUPS_MOST.true (omega arith)
+read_atom-returns-then-groups-ge-GROUPS_MOST t c =
+    let o = token-of c.args.p.now c.args.at opens_group (omega (arith, c.requires.within)) (sym (ap sign_of c.in-OpensGroup.is) ∙ c.sign_of.ensures) in
+    atom-deep o c.if-groups-ge-GROUPS_MOST.true (omega arith)
 
 pub read_atom-returns-then-p-next : goal.read_atom-returns-then-p-next
-read_atom-returns-then-p-next t c = let d = rw c.in-Read.is at c.read_branches.ensures in group-unclosed (token-of c.args.p.now c.args.at opens_group (omega (arith, c.requires.1.within)) (sym (ap sign_of c.in-OpensGroup.is) ∙ c.sign_of.ensures)) c.if-groups-ge-GROUPS_MOST.false d.says c.if-p-next.true d.high
+read_atom-returns-then-p-next t c =
+    let d = rw c.in-Read.is at c.read_branches.ensures in
+    let o = token-of c.args.p.now c.args.at opens_group (omega (arith, c.requires.within)) (sym (ap sign_of c.in-OpensGroup.is) ∙ c.sign_of.ensures) in
+    group-unclosed o c.if-groups-ge-GROUPS_MOST.false d.says c.if-p-next.true d.high
 
 pub read_atom-overflow_add-result : goal.read_atom-overflow_add-result
 read_atom-overflow_add-result t c = let d = rw c.in-Read.is at c.read_branches.ensures in omega arith
 
 pub read_atom-read_single-requires : goal.read_atom-read_single-requires
-read_atom-read_single-requires t c = record { within = omega arith; is = c.sign_of.ensures; no-group = λ e. not-sign c.sign_of.result (0 ∷ 1 ∷ 2 ∷ 3 ∷ 5 ∷ 6 ∷ 7 ∷ 8 ∷ 9 ∷ 10 ∷ 11 ∷ 12 ∷ 13 ∷ 14 ∷ []) opens_group (opened c.in_default.in_default-own.keys2) tt e; room = omega arith }
+read_atom-read_single-requires t c =
+    record {
+      within = omega arith;
+      is = c.sign_of.ensures;
+      no-group = λ e. not-sign c.sign_of.result (0 ∷ 1 ∷ 2 ∷ 3 ∷ 5 ∷ 6 ∷ 7 ∷ 8 ∷ 9 ∷ 10 ∷ 11 ∷ 12 ∷ 13 ∷ 14 ∷ []) opens_group (opened c.in_default.in_default-own.keys2) tt e;
+      room = omega arith;
+    }
 
 pub read_atom-returns-in-Bad : goal.read_atom-returns-in-Bad
-read_atom-returns-in-Bad t c = group-refused (token-of c.args.p.now c.args.at opens_group (omega (arith, c.requires.1.within)) (sym (ap sign_of c.in-OpensGroup.is) ∙ c.sign_of.ensures)) c.if-groups-ge-GROUPS_MOST.false (rw c.in-Bad.is at c.read_branches.ensures)
+read_atom-returns-in-Bad t c =
+    let o = token-of c.args.p.now c.args.at opens_group (omega (arith, c.requires.within)) (sym (ap sign_of c.in-OpensGroup.is) ∙ c.sign_of.ensures) in
+    group-refused o c.if-groups-ge-GROUPS_MOST.false (rw c.in-Bad.is at c.read_branches.ensures)
 
 pub read_atom-returns-else-p-next : goal.read_atom-returns-else-p-next
 read_atom-returns-else-p-next t c = let d = rw c.in-Read.is at c.read_branches.ensures in
-    record { tree = d.tree; says = group-closed (token-of c.args.p.now c.args.at opens_group (omega (arith, c.requires.1.within)) (sym (ap sign_of c.in-OpensGroup.is) ∙ c.sign_of.ensures)) c.if-groups-ge-GROUPS_MOST.false d.says c.if-p-next.false; wrote = d.wrote; kept = d.kept; longer = omega arith; low = omega arith; high = omega arith; room = omega arith }
+    let o = token-of c.args.p.now c.args.at opens_group (omega (arith, c.requires.within)) (sym (ap sign_of c.in-OpensGroup.is) ∙ c.sign_of.ensures) in
+    record {
+      tree = d.tree;
+      says = group-closed o c.if-groups-ge-GROUPS_MOST.false d.says c.if-p-next.false;
+      wrote = d.wrote;
+      kept = d.kept;
+      longer = omega arith;
+      low = omega arith;
+      high = omega arith;
+      room = omega arith;
+    }
 
 pub read_atom-returns-in_default : goal.read_atom-returns-in_default
 read_atom-returns-in_default t c = c.read_single.ensures c.args.groups
 
 pub read_branch-returns-then-stops_at : goal.read_branch-returns-then-stops_at
-read_branch-returns-then-stops_at t c = rw c.one.ensures.0 (record { tree = nothing; says = branch-empty (sym c.stops_at.ensures ∙ c.if-stops_at.true); wrote = wrote_one c.one.ensures.1; kept = c.one.ensures.1.kept; longer = omega arith; low = omega arith; high = omega arith; room = omega arith })
+read_branch-returns-then-stops_at t c = rw c.one.ensures.0 (record {
+  tree = nothing;
+  says = branch-empty (sym c.stops_at.ensures ∙ c.if-stops_at.true);
+  wrote = wrote_one c.one.ensures.1;
+  kept = c.one.ensures.1.kept;
+  longer = omega arith;
+  low = omega arith;
+  high = omega arith;
+  room = omega arith;
+})
 
 pub read_branch-read_piece-requires : goal.read_branch-read_piece-requires
 read_branch-read_piece-requires t c = let i = on-within c.args.p.now c.args.from (sym c.stops_at.ensures ∙ c.if-stops_at.false) in omega arith
@@ -135,7 +93,7 @@ pub read_branch-put-requires : goal.read_branch-put-requires
 read_branch-put-requires t c = let d = rw c.in-Read-read_piece.is at c.read_piece-in-reading.ensures in omega (arith, c.read_piece-in-reading.auto, c.read_piece.auto)
 
 pub read_branch-overflow_add-n : goal.read_branch-overflow_add-n
-read_branch-overflow_add-n t c = let d = rw c.in-Read-read_piece.is at c.read_piece-in-reading.ensures in omega (arith, c.requires, c.well-formed)
+read_branch-overflow_add-n t c = let d = rw c.in-Read-read_piece.is at c.read_piece-in-reading.ensures in omega (arith, c.requires, c.well_formed)
 
 pub read_branch-reading-smaller : goal.read_branch-reading-smaller
 read_branch-reading-smaller t c = let d = rw c.in-Read-read_piece.is at c.read_piece-in-reading.ensures in omega arith
@@ -161,12 +119,22 @@ read_branch-reading-preserved t c = let d = rw c.in-Read-read_piece.is at c.read
 pub read_branch-returns-then-stops_at-2 : goal.read_branch-returns-then-stops_at-2
 read_branch-returns-then-stops_at-2 t c = let d = rw c.in-Read.is at c.read_piece.ensures in
     let g = c.reading.invariant.5 d.tree d.wrote in
-    record { tree = g.tree; says = branch-on (sym c.stops_at.ensures ∙ c.if-stops_at.false) d.says (g.back _ (pieces-stop (sym c.stops_at-in-reading.ensures ∙ c.if-stops_at-2.true))); wrote = g.wrote; kept = g.kept ∙ d.kept; longer = omega arith; low = omega arith; high = omega arith; room = omega arith }
+    record {
+      tree = g.tree;
+      says = branch-on (sym c.stops_at.ensures ∙ c.if-stops_at.false) d.says (g.back _ (pieces-stop (sym c.stops_at-in-reading.ensures ∙ c.if-stops_at-2.true)));
+      wrote = g.wrote;
+      kept = g.kept ∙ d.kept;
+      longer = omega arith;
+      low = omega arith;
+      high = omega arith;
+      room = omega arith;
+    }
 
 pub read_branch-returns-in-Bad-read_piece : goal.read_branch-returns-in-Bad-read_piece
 read_branch-returns-in-Bad-read_piece t c = let d = rw c.in-Read.is at c.read_piece.ensures in
     let g = c.reading.invariant.5 d.tree d.wrote in
-    branch-on (sym c.stops_at.ensures ∙ c.if-stops_at.false) d.says (g.back _ (pieces-refused (sym c.stops_at-in-reading.ensures ∙ c.if-stops_at-2.false) (rw c.in-Bad-read_piece.is at c.read_piece-in-reading.ensures)))
+    let b = pieces-refused (sym c.stops_at-in-reading.ensures ∙ c.if-stops_at-2.false) (rw c.in-Bad-read_piece.is at c.read_piece-in-reading.ensures) in
+    branch-on (sym c.stops_at.ensures ∙ c.if-stops_at.false) d.says (g.back _ b)
 
 pub read_branches-returns-in-Bad : goal.read_branches-returns-in-Bad
 read_branches-returns-in-Bad t c = pattern-refused (rw c.in-Bad.is at c.read_branch.ensures)
@@ -188,7 +156,7 @@ pub read_branches-put-requires : goal.read_branches-put-requires
 read_branches-put-requires t c = let d = rw c.in-Read-read_branch.is at c.read_branch-in-Bar.ensures in omega (arith, c.read_branch-in-Bar.auto, c.read_branch.auto)
 
 pub read_branches-overflow_add-n : goal.read_branches-overflow_add-n
-read_branches-overflow_add-n t c = let d = rw c.in-Read-read_branch.is at c.read_branch-in-Bar.ensures in omega (arith, c.requires, c.well-formed)
+read_branches-overflow_add-n t c = let d = rw c.in-Read-read_branch.is at c.read_branch-in-Bar.ensures in omega (arith, c.requires, c.well_formed)
 
 pub read_branches-reading-smaller : goal.read_branches-reading-smaller
 read_branches-reading-smaller t c = let d = rw c.in-Read-read_branch.is at c.read_branch-in-Bar.ensures in omega arith
@@ -215,7 +183,16 @@ read_branches-reading-preserved t c = let d = rw c.in-Read-read_branch.is at c.r
 pub read_branches-returns-then-p-at : goal.read_branches-returns-then-p-at
 read_branches-returns-then-p-at t c = let d = rw c.in-Read.is at c.read_branch.ensures in
     let g = c.reading.invariant.5 d.tree d.wrote in
-    record { tree = g.tree; says = pattern-on d.says (g.back _ (branches-end (token_end c.args.p.now c.reading.at c.if-p-at.true))); wrote = g.wrote; kept = g.kept ∙ d.kept; longer = omega arith; low = omega arith; high = omega arith; room = omega arith }
+    record {
+      tree = g.tree;
+      says = pattern-on d.says (g.back _ (branches-end (token_end c.args.p.now c.reading.at c.if-p-at.true)));
+      wrote = g.wrote;
+      kept = g.kept ∙ d.kept;
+      longer = omega arith;
+      low = omega arith;
+      high = omega arith;
+      room = omega arith;
+    }
 
 pub read_branches-returns-in-Bad-read_branch : goal.read_branches-returns-in-Bad-read_branch
 read_branches-returns-in-Bad-read_branch t c = let d = rw c.in-Read.is at c.read_branch.ensures in
@@ -226,12 +203,23 @@ read_branches-returns-in-Bad-read_branch t c = let d = rw c.in-Read.is at c.read
 pub read_branches-returns-then-groups-eq0 : goal.read_branches-returns-then-groups-eq0
 read_branches-returns-then-groups-eq0 t c = let d = rw c.in-Read.is at c.read_branch.ensures in
     let g = c.reading.invariant.5 d.tree d.wrote in
-    pattern-on d.says (g.back _ (branches-stray (close-here c.args.p.now c.reading.at c.sign_of.result c.if-p-at.false c.sign_of.ensures (opened c.in_default.in_default-own.keys2)) c.if-groups-eq0.true (omega arith)))
+    let e = close-here c.args.p.now c.reading.at c.sign_of.result c.if-p-at.false c.sign_of.ensures (opened c.in_default.in_default-own.keys2) in
+    pattern-on d.says (g.back _ (branches-stray e c.if-groups-eq0.true (omega arith)))
 
 pub read_branches-returns-else-groups-eq0 : goal.read_branches-returns-else-groups-eq0
 read_branches-returns-else-groups-eq0 t c = let d = rw c.in-Read.is at c.read_branch.ensures in
     let g = c.reading.invariant.5 d.tree d.wrote in
-    record { tree = g.tree; says = pattern-on d.says (g.back _ (branches-out (close-here c.args.p.now c.reading.at c.sign_of.result c.if-p-at.false c.sign_of.ensures (opened c.in_default.in_default-own.keys2)) (omega arith))); wrote = g.wrote; kept = g.kept ∙ d.kept; longer = omega arith; low = omega arith; high = omega arith; room = omega arith }
+    let e = close-here c.args.p.now c.reading.at c.sign_of.result c.if-p-at.false c.sign_of.ensures (opened c.in_default.in_default-own.keys2) in
+    record {
+      tree = g.tree;
+      says = pattern-on d.says (g.back _ (branches-out e (omega arith)));
+      wrote = g.wrote;
+      kept = g.kept ∙ d.kept;
+      longer = omega arith;
+      low = omega arith;
+      high = omega arith;
+      room = omega arith;
+    }
 
 pub read_piece-after_atom-requires : goal.read_piece-after_atom-requires
 read_piece-after_atom-requires t c = let d = rw c.in-Read.is at c.read_atom.ensures in omega arith
@@ -248,7 +236,16 @@ read_piece-returns-in-Bad-after_atom t c = let d = rw c.in-Read.is at c.read_ato
 
 pub read_piece-returns-in-Nothing : goal.read_piece-returns-in-Nothing
 read_piece-returns-in-Nothing t c = let d = rw c.in-Read.is at c.read_atom.ensures in
-    record { tree = d.tree; says = piece-once d.says (rw c.in-Nothing.is at c.after_atom.ensures); wrote = d.wrote; kept = d.kept; longer = omega arith; low = omega arith; high = omega arith; room = omega arith }
+    record {
+      tree = d.tree;
+      says = piece-once d.says (rw c.in-Nothing.is at c.after_atom.ensures);
+      wrote = d.wrote;
+      kept = d.kept;
+      longer = omega arith;
+      low = omega arith;
+      high = omega arith;
+      room = omega arith;
+    }
 
 pub read_piece-returns-in-Sign : goal.read_piece-returns-in-Sign
 read_piece-returns-in-Sign t c = let d = rw c.in-Read.is at c.read_atom.ensures in

@@ -12,7 +12,6 @@ use Rattle.signs.specs.Answers.{count_of}
 use Rattle.reader.specs.Says.{is_repeat}
 use Rattle.signs.proofs.Places.{read_some, read_none}
 use Rattle.reader.proofs.TokenLaws.{token_end, token-of, no-repeat}
-use borrow.Author.Rules.{rules}
 use borrow.Enum.Refused.{opened}
 use Rattle.reader.proofs.tree.after_atom.Goals as goal
 
@@ -30,11 +29,16 @@ pub returns-in-Query : goal.returns-in-Query
 returns-in-Query c = (token-of c.args.p.now c.args.at query_sign c.if-p-at.false (sym (ap sign_of c.in-Query.is) ∙ c.sign_of.ensures), omega arith, omega arith)
 
 pub returns-in-Bad : goal.returns-in-Bad
-returns-in-Bad c = token-of c.args.p.now c.args.at opens_count c.if-p-at.false (sym (ap sign_of c.in-OpensCount.is) ∙ c.sign_of.ensures) ∙ ap (λ (o : Option (Repeat × List ℕ)). repeats_or no_count o) (read_none c.read_count.ensures (ap count_of c.in-Bad.is))
+returns-in-Bad c =
+    let o = token-of c.args.p.now c.args.at opens_count c.if-p-at.false (sym (ap sign_of c.in-OpensCount.is) ∙ c.sign_of.ensures) in
+    o ∙ ap (λ (o : Option (Repeat × List ℕ)). repeats_or no_count o) (read_none c.read_count.ensures (ap count_of c.in-Bad.is))
 
 pub returns-in-Read : goal.returns-in-Read
 returns-in-Read c = let m = read_some c.read_count.ensures (ap count_of c.in-Read.is) in
-    (token-of c.args.p.now c.args.at opens_count c.if-p-at.false (sym (ap sign_of c.in-OpensCount.is) ∙ c.sign_of.ensures) ∙ ap (λ (o : Option (Repeat × List ℕ)). repeats_or no_count o) m.0, omega arith, m.2)
+    let o = token-of c.args.p.now c.args.at opens_count c.if-p-at.false (sym (ap sign_of c.in-OpensCount.is) ∙ c.sign_of.ensures) in
+    (o ∙ ap (λ (o : Option (Repeat × List ℕ)). repeats_or no_count o) m.0, omega arith, m.2)
 
 pub returns-in_default : goal.returns-in_default
-returns-in_default c = no-repeat c.args.p.now c.args.at c.sign_of.result c.if-p-at.false c.sign_of.ensures 0 (1 ∷ 2 ∷ 3 ∷ 4 ∷ 5 ∷ 6 ∷ 11 ∷ 12 ∷ 13 ∷ 14 ∷ []) (opened c.in_default.in_default-own.keys5) tt
+returns-in_default c =
+    let k = opened c.in_default.in_default-own.keys5 in
+    no-repeat c.args.p.now c.args.at c.sign_of.result c.if-p-at.false c.sign_of.ensures 0 (1 ∷ 2 ∷ 3 ∷ 4 ∷ 5 ∷ 6 ∷ 11 ∷ 12 ∷ 13 ∷ 14 ∷ []) k tt
