@@ -50,6 +50,9 @@ slice_bounds-result-start-in-Match c = (within (goal.at.slice_bounds-result-star
 pub slice_bounds-result-end-in-Match : goal.slice_bounds-result-end-in-Match
 slice_bounds-result-end-in-Match c = (within (goal.at.slice_bounds-result-end-in-Match c).In-Match).1
 
+pub slice_bounds-result-count-in-Match : goal.slice_bounds-result-count-in-Match
+slice_bounds-result-count-in-Match c = (within (goal.at.slice_bounds-result-count-in-Match c).In-Match).0
+
 pub returns-in-Match : goal.returns-in-Match
 unfolding part_answer first_answer part_of
 returns-in-Match c = hands-back (ap (part_of _) (checked-past _ _ _ (formed (goal.at.returns-in-Match c).Else-not-well_formed) c.if-n-gt-TEXT_MOST.false ∙ ap given (sym (found (goal.at.returns-in-Match c).After-find-found) ∙ ap found_of c.in-Match.is)))
