@@ -1,4 +1,6 @@
 // Whether a match lies ahead of a row at a place of the text.
+#![tactic(auto)]
+
 ghost use Rattle.std.specs.Prelude.{◌≡◌, true, List, [], ℕ, ◌<◌, drop};
 ghost use Rattle.rules.specs.Table.{begins, WellFormed};
 ghost use Rattle.table.specs.Lent.{table_of};

@@ -1,4 +1,6 @@
 // What the entry points hand back: a refusal, or an answer. `Answers` sets out each case.
+#![tactic(auto)]
+
 use kinds::{Refusal, Row};
 
 #[derive(Drop)]

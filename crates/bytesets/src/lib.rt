@@ -1,4 +1,6 @@
 // A set of bytes by value: 256 bits, the lowest word first.
+#![tactic(auto)]
+
 ghost use Rattle.std.specs.Prelude.{◌≡◌, ◌-◌, ◌^◌, ◌≤◌, min, eqb};
 ghost use Rattle.rules.specs.Tools as sets;
 ghost use Rattle.rules.specs.Tools.{range, with_all};

@@ -1,5 +1,7 @@
 // Groups of rows, each in a chain: `seen` has rows, `last` for each group one more than the place in `seen` of its last row, and
 // `prior` for each place the same of the row before it in its group; 0 ends a chain.
+#![tactic(auto)]
+
 ghost use Rattle.std.specs.Prelude.{◌≡◌, ◌+◌, ◌<◌, length, get_or, set};
 ghost use Rattle.rules.specs.Sizes.{rows_most};
 

@@ -1,4 +1,6 @@
 // Classes: members, ranges and named classes.
+#![tactic(auto)]
+
 ghost use Rattle.std.specs.Prelude.{◌≤◌, ◌+◌, ◌<◌, length};
 ghost use Rattle.rules.specs.Reader.{member, class};
 ghost use Rattle.signs.specs.Answers.{byte_of, Reads};

@@ -1,4 +1,6 @@
 // The numbers of an answer, as C and Rust read it: the code that is handed back, and what is put into the lent numbers.
+#![tactic(auto)]
+
 ghost use Rattle.std.specs.Prelude.{◌≡◌, get_or};
 ghost use Rattle.kinds.specs.Refusals.{refusal_of};
 ghost use Rattle.answers.specs.Answers.{whole_of, longest_of, first_of, starts_of, text_of, compiled_of};

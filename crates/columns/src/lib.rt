@@ -1,4 +1,6 @@
 // Columns: neighbouring bytes on which every row goes alike make one, and the first of them stands for all.
+#![tactic(auto)]
+
 ghost use Rattle.std.specs.Prelude.{◌≡◌, ◌+◌, ◌*◌, ◌≤◌, ◌<◌, length, take};
 ghost use Rattle.rules.specs.Sizes.{rows_most};
 ghost use Rattle.columns.specs.Columns.{Columns, Begins, RowNoted, Gathered};

@@ -1,4 +1,6 @@
 // Classes cut by groups of rows, which are rows of one class each.
+#![tactic(auto)]
+
 ghost use Rattle.std.specs.Prelude.{◌≡◌, List, ℕ, ◌<◌, length};
 ghost use Rattle.chains.specs.Chains.{Labelled, Grouped};
 ghost use Rattle.cutting.specs.Cutting.{CutOff, CutTo, Standing};

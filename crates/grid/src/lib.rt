@@ -1,4 +1,6 @@
 // Rows as they stand in the cells.
+#![tactic(auto)]
+
 ghost use Rattle.std.specs.Prelude.{◌≡◌, ◌+◌, ◌*◌, ◌<◌, get_or};
 ghost use Rattle.grid.specs.Rows.{Rows};
 

@@ -1,4 +1,6 @@
 // What tells the rows of a class apart in a round: the classes that they go to, where these wait. Classes wait from the number `from` on.
+#![tactic(auto)]
+
 ghost use Rattle.std.specs.Prelude.{◌≡◌, ◌<◌, length};
 ghost use Rattle.mixing.specs.Mixing.{buckets};
 ghost use Rattle.keys.specs.Keys as specs;

@@ -1,4 +1,6 @@
 // Numbers that can't stand for each other, the sizes, and what is turned away.
+#![tactic(auto)]
+
 ghost use Rattle.std.specs.Prelude.{◌≡◌, ◌≤◌};
 ghost use Rattle.kinds.specs.Sizes.{AsAgreed};
 ghost use Rattle.kinds.specs.Refusals.{refusal_of};

@@ -1,4 +1,6 @@
 // Known sets: the rows from row 2 on by the nodes whose edges were taken to reach them, in buckets.
+#![tactic(auto)]
+
 ghost use Rattle.std.specs.Prelude.{◌≡◌, ◌+◌, ◌*◌, ◌≤◌, ◌<◌, length};
 ghost use Rattle.rules.specs.Sizes.{rows_most, words_a_row};
 ghost use Rattle.rules.specs.Tools as tools;

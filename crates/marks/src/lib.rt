@@ -1,4 +1,6 @@
 // Rows sorted into groups by their marks.
+#![tactic(auto)]
+
 ghost use Rattle.std.specs.Prelude.{◌≡◌, List, ℕ, ◌+◌, ◌≤◌, ◌<◌, length, get_or};
 ghost use Rattle.rules.specs.Sizes.{rows_most};
 ghost use Rattle.marks.specs.Marks.{MarkedTo, ByMarks};

@@ -1,4 +1,6 @@
 // Numbers mixed, and the bucket of what is mixed.
+#![tactic(auto)]
+
 ghost use Rattle.std.specs.Prelude.{◌≡◌, ◌<◌};
 ghost use Rattle.mixing.specs.Mixing.{buckets, mixed, bucket_for};
 

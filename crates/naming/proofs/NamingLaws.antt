@@ -9,7 +9,7 @@ use borrow.Author.Count.{below_more}
 use lib.ListN.{length, get_or, set, replicate, length-set, length-replicate, get_or-replicate}
 use lib.Seq.{get_or-set_same, get_or-set_other}
 use Rattle.rules.specs.Sizes.{rows_most}
-use Rattle.naming.specs.Naming.{LeastOf, FirstOf, NamedTo, Numbers}
+use Rattle.naming.specs.Naming.{LeastOf, FirstOf, NamedTo}
 
 pub named_none : (number class : List ℕ) {first : List ℕ} → first ≡ replicate (length number) rows_most → length class ≡ length number → NamedTo number first class 0
 named_none number class {first} e l = record {

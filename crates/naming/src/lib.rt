@@ -1,4 +1,6 @@
 // Names: each class by its least row.
+#![tactic(auto)]
+
 ghost use Rattle.std.specs.Prelude.{◌≡◌, ℕ, ◌+◌, ◌<◌, length, get_or, replicate};
 ghost use Rattle.rules.specs.Sizes.{rows_most};
 ghost use Rattle.naming.specs.Naming.{LeastOf, NamedTo, Numbers};

@@ -1,4 +1,6 @@
 // Sets of nodes in words of 64 bits: node v is bit v % 64 of word v / 64.
+#![tactic(auto)]
+
 ghost use Rattle.std.specs.Prelude.{◌≡◌, ℕ, ◌*◌, ◌≤◌, ◌<◌, length, get_or};
 ghost use Rattle.rules.specs.Tools.{has, with};
 ghost use Rattle.rules.specs.Tools as tools;

@@ -1,4 +1,6 @@
 // The program of a tree: its operations, each after its parts.
+#![tactic(auto)]
+
 ghost use Rattle.std.specs.Prelude.{◌≡◌, ◌+◌, ◌≤◌, ◌<◌, length};
 ghost use Rattle.rules.specs.Signs.{dot_bytes};
 ghost use Rattle.bytesets.specs.ByteSets.{bytes_of};

@@ -1,4 +1,6 @@
 // Sets of numbers in lent words of 64 bits: x is in if bit x % 64 of word x / 64 is 1.
+#![tactic(auto)]
+
 ghost use Rattle.std.specs.Prelude.{◌≡◌, ◌+◌, ◌*◌, ◌≤◌, ◌<◌, length, replicate};
 ghost use Rattle.sets.specs.Sets.{member, put_in, AllIn};
 

@@ -1,5 +1,7 @@
 // Classes of rows as stretches of one list: `order` has the rows, those of a class side by side, and `place` where each row stands.
 // Class c has the rows at the places from start[c] to end[c]. Cutting a class leaves its longer part its number.
+#![tactic(auto)]
+
 ghost use Rattle.std.specs.Prelude.{◌≡◌, ◌+◌, ◌≤◌, ◌<◌, length};
 ghost use Rattle.rules.specs.Sizes.{rows_most};
 ghost use Rattle.stretches.specs.Stretches.{LinedUp, Placed, Swapped, Once, Stretches, Inside, Within, Renumbered, CutAt};

@@ -1,4 +1,6 @@
 // Tables as they are lent: whether one is well formed, and its rule.
+#![tactic(auto)]
+
 ghost use Rattle.std.specs.Prelude.{◌≡◌, ◌+◌, ◌*◌, ◌-◌, ◌≤◌, leb, ltb, eqb, length, get_or};
 ghost use Rattle.rules.specs.Tools.{all};
 ghost use Rattle.rules.specs.Table.{is_mark, well_formed, fits};

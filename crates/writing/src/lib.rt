@@ -1,4 +1,6 @@
 // Texts of a table, piece by piece, written into a lent buffer from a place on. What is past the buffer's end is only counted.
+#![tactic(auto)]
+
 ghost use Rattle.std.specs.Prelude.{◌≡◌, [], ◌∷◌, ◌^◌, ◌<◌, leb, length};
 ghost use Rattle.rules.specs.Answers.{given};
 ghost use Rattle.rules.specs.Listing.{decimal};

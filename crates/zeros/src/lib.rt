@@ -1,4 +1,6 @@
 // Lent room set to 0 past what is kept, one function for each width.
+#![tactic(auto)]
+
 ghost use Rattle.std.specs.Prelude.{◌≡◌, ◌≤◌, length, take};
 ghost use Rattle.rules.specs.Compile.{over};
 

@@ -1,6 +1,5 @@
 use Rattle.ahead.specs.Ahead.{lent}
 use Rattle.rules.proofs.TableLaws.{begins-first, begins-later}
-use borrow.Enum.Refused.{opened}
 use Rattle.ahead.proofs.begin.Goals as goal
 
 pub returns-then-s-eq0 : goal.returns-then-s-eq0

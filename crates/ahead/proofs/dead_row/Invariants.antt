@@ -1,7 +1,4 @@
-use borrow.Author.Rules.{rules}
 use Prim.Native.Nat.{◌-◌, ◌≤◌}
-use native.Mathlib.Omega.{arith}
-use borrow.Enum.Refused.{opened}
 use Rattle.ahead.proofs.dead_row.Given as goal
 
 abbrev pub invariant-loop-q : goal.invariant-loop-q

@@ -1,14 +1,13 @@
 use borrow.Author.Rules.{rules}
-use mathlib.Core.Path.{◌≡◌, refl, ap}
+use mathlib.Core.Path.{refl, ap}
 use mathlib.Core.Bool.{true}
-use Prim.Native.Nat.{ℕ, ◌-◌, ◌≤◌, ◌<◌}
+use Prim.Native.Nat.{ℕ}
 use native.Mathlib.Omega.{arith}
-use lib.ListN.{length, get_or, length-set}
+use lib.ListN.{get_or, length-set}
 use mir.Val.{bool_byte}
 use Rattle.rules.specs.Table.{fits}
 use Rattle.ahead.specs.Ahead.{ahead}
-use Rattle.ahead.proofs.AheadLaws.{flag-more, Rest, rest_all, rest-less}
-use borrow.Enum.Refused.{opened}
+use Rattle.ahead.proofs.AheadLaws.{flag-more, rest_all, rest-less}
 use Rattle.ahead.proofs.flags_at_end.Goals as goal
 
 pub loop-q-init : goal.loop-q-init

@@ -1,14 +1,10 @@
-use borrow.Author.Rules.{rules}
-use mathlib.Core.Path.{◌≡◌, refl, ap}
+use mathlib.Core.Path.{◌≡◌}
 use mathlib.Core.Bool.{true}
 use Prim.Native.Nat.{ℕ, ◌-◌, ◌≤◌, ◌<◌}
-use native.Mathlib.Omega.{arith}
-use lib.ListN.{length, get_or, length-set}
+use lib.ListN.{length, get_or}
 use mir.Val.{bool_byte}
 use Rattle.rules.specs.Table.{fits}
-use Rattle.ahead.specs.Ahead.{ahead}
-use Rattle.ahead.proofs.AheadLaws.{flag-more, Rest, rest_all, rest-less}
-use borrow.Enum.Refused.{opened}
+use Rattle.ahead.proofs.AheadLaws.{Rest}
 use Rattle.ahead.proofs.flags_at_end.Given as goal
 
 -- `flags_at_end`: the flags below q are set, and from q on they are still 0.

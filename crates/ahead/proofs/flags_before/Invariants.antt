@@ -1,12 +1,9 @@
-use borrow.Author.Rules.{rules}
-use mathlib.Core.Path.{◌≡◌, refl, ap}
+use mathlib.Core.Path.{◌≡◌}
 use Prim.Native.Nat.{ℕ, ◌-◌, ◌≤◌, ◌<◌}
-use native.Mathlib.Omega.{arith}
-use lib.ListN.{length, get_or, drop, length-set}
+use lib.ListN.{length, get_or, drop}
 use mir.Val.{bool_byte}
 use Rattle.ahead.specs.Ahead.{lent, ahead}
-use Rattle.ahead.proofs.AheadLaws.{flag-more, Rest, rest_all, rest-less}
-use borrow.Enum.Refused.{opened}
+use Rattle.ahead.proofs.AheadLaws.{Rest}
 use Rattle.ahead.proofs.flags_before.Given as goal
 
 -- `flags_before`: the flags below q are those that walks found, and from q on they are still 0.

@@ -1,12 +1,7 @@
-use borrow.Author.Rules.{rules}
 use mathlib.Core.Path.{refl, sym, ◌∙◌}
-use Prim.Native.Nat.{ℕ, ◌-◌, ◌≤◌, ◌<◌}
 use native.Mathlib.Omega.{arith}
-use lib.ListN.{length}
-use Rattle.table.specs.Lent.{table_of}
-use Rattle.ahead.specs.Ahead.{lent, Ready}
+use Rattle.ahead.specs.Ahead.{lent}
 use Rattle.ahead.proofs.AheadLaws.{On, on-more, on-hit, on-dead, on-end}
-use borrow.Enum.Refused.{opened}
 use Rattle.ahead.proofs.look.Goals as goal
 use Rattle.ahead.proofs.look.Goals.{After-loop-p, At-loop-p, Start}
 

@@ -1,12 +1,8 @@
-use borrow.Author.Rules.{rules}
-use mathlib.Core.Path.{refl, sym, ◌∙◌}
 use Prim.Native.Nat.{ℕ, ◌-◌, ◌≤◌, ◌<◌}
-use native.Mathlib.Omega.{arith}
 use lib.ListN.{length}
 use Rattle.table.specs.Lent.{table_of}
-use Rattle.ahead.specs.Ahead.{lent, Ready}
-use Rattle.ahead.proofs.AheadLaws.{On, on-more, on-hit, on-dead, on-end}
-use borrow.Enum.Refused.{opened}
+use Rattle.ahead.specs.Ahead.{Ready}
+use Rattle.ahead.proofs.AheadLaws.{On}
 use Rattle.ahead.proofs.look.Given as goal
 
 abbrev pub invariant-loop-p : goal.invariant-loop-p

@@ -1,9 +1,7 @@
-use borrow.Author.Rules.{rules}
 use mathlib.Core.Path.{sym, ◌∙◌}
 use mathlib.Core.Bool.{true≢false}
 use native.Mathlib.Omega.{arith}
 use Rattle.table.proofs.StaysLaws.{stays}
-use borrow.Enum.Refused.{opened}
 use Rattle.ahead.proofs.stuck.Goals as goal
 
 pub returns-then-ends_here : goal.returns-then-ends_here

@@ -2,7 +2,6 @@ use Prim.Native.Nat.{◌+◌, ◌-◌, min}
 use native.Mathlib.Omega.{arith}
 use lib.Pow.{pow_mono}
 use Rattle.bytesets.proofs.ByteSetLaws.{word-range}
-use borrow.Author.Rules.{rules}
 use Rattle.bytesets.proofs.bits_between.Goals as goal
 
 -- `bits_between`

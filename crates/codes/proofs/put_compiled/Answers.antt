@@ -1,6 +1,4 @@
-use borrow.Author.Rules.{rules}
 use mathlib.Core.Path.{refl}
-use borrow.Enum.Refused.{opened}
 use Rattle.codes.proofs.put_compiled.Goals as goal
 
 -- `put_compiled` meets its contract, of a table and of a refusal.

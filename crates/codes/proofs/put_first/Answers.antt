@@ -1,6 +1,4 @@
-use borrow.Author.Rules.{rules}
 use mathlib.Core.Path.{refl}
-use borrow.Enum.Refused.{opened}
 use Rattle.codes.proofs.put_first.Goals as goal
 
 -- `put_first` meets its contract, in each case of the answer.

@@ -1,5 +1,3 @@
-use borrow.Author.Rules.{rules}
-use borrow.Enum.Refused.{opened}
 use Rattle.codes.proofs.put_starts.Goals as goal
 
 -- `put_starts` meets its contract: of a refusal it puts what comes with it.

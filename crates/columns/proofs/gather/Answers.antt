@@ -1,8 +1,6 @@
-use borrow.Author.Rules.{rules}
 use mathlib.Core.Logic.{⊎_elim}
-use Prim.Native.Nat.{◌-◌}
 use native.Mathlib.Omega.{arith}
-use Rattle.columns.proofs.ColumnLaws.{Gathering, gathering-none, gathering-hit, gathering-miss, gathering-all}
+use Rattle.columns.proofs.ColumnLaws.{gathering-none, gathering-hit, gathering-miss, gathering-all}
 use Rattle.columns.proofs.gather.Goals as goal
 
 pub loop-b-init : goal.loop-b-init

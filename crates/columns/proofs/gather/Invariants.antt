@@ -1,8 +1,5 @@
-use borrow.Author.Rules.{rules}
-use mathlib.Core.Logic.{⊎_elim}
 use Prim.Native.Nat.{◌-◌}
-use native.Mathlib.Omega.{arith}
-use Rattle.columns.proofs.ColumnLaws.{Gathering, gathering-none, gathering-hit, gathering-miss, gathering-all}
+use Rattle.columns.proofs.ColumnLaws.{Gathering}
 use Rattle.columns.proofs.gather.Given as goal
 
 abbrev pub invariant-loop-b : goal.invariant-loop-b

@@ -1,4 +1,3 @@
-use borrow.Author.Rules.{rules}
 use Rattle.columns.proofs.ColumnLaws.{columns_of}
 use Rattle.columns.proofs.list.Goals as goal
 

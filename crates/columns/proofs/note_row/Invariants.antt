@@ -1,9 +1,5 @@
-use borrow.Author.Rules.{rules}
-use mathlib.Core.Path.{◌≡◌}
 use Prim.Native.Nat.{◌≤◌, ◌-◌}
-use native.Mathlib.Omega.{arith}
 use Rattle.columns.specs.Columns.{RowNoted}
-use Rattle.columns.proofs.ColumnLaws.{noted-none, noted_more}
 use Rattle.columns.proofs.note_row.Given as goal
 
 abbrev pub invariant-loop-b : goal.invariant-loop-b

@@ -1,9 +1,6 @@
 use borrow.Author.Rules.{rules}
 use mathlib.Core.Path.{◌≡◌, refl, ◌∙◌}
-use Prim.Native.Nat.{◌≤◌, ◌-◌}
 use native.Mathlib.Omega.{arith}
-use lib.ListN.{length}
-use Rattle.columns.specs.Columns.{Begins}
 use Rattle.columns.proofs.ColumnLaws.{begins-none, begins-more}
 use Rattle.columns.proofs.note_rows.Goals as goal
 

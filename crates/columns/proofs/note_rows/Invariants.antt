@@ -1,10 +1,7 @@
-use borrow.Author.Rules.{rules}
-use mathlib.Core.Path.{◌≡◌, refl, ◌∙◌}
+use mathlib.Core.Path.{◌≡◌}
 use Prim.Native.Nat.{◌≤◌, ◌-◌}
-use native.Mathlib.Omega.{arith}
 use lib.ListN.{length}
 use Rattle.columns.specs.Columns.{Begins}
-use Rattle.columns.proofs.ColumnLaws.{begins-none, begins-more}
 use Rattle.columns.proofs.note_rows.Given as goal
 
 abbrev pub invariant-loop-q : goal.invariant-loop-q

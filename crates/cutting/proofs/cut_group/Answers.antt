@@ -1,9 +1,8 @@
-use borrow.Author.Rules.{rules}
 use mathlib.Core.Path.{refl, sym, ◌∙◌}
 use Prim.Native.Nat.{◌-◌}
 use native.Mathlib.Omega.{arith}
-use lib.ListN.{length, get_or}
-use Rattle.cutting.proofs.MoveLaws.{Carried, carried_none, carried-next, first, next, to-swap, to-cut}
+use lib.ListN.{get_or}
+use Rattle.cutting.proofs.MoveLaws.{carried_none, carried-next, first, next, to-swap, to-cut}
 use Rattle.cutting.proofs.CutLaws.{cut-here}
 use Rattle.cutting.proofs.cut_group.Goals as goal
 

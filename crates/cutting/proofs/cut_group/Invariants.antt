@@ -1,10 +1,5 @@
-use borrow.Author.Rules.{rules}
-use mathlib.Core.Path.{refl, sym, ◌∙◌}
-use Prim.Native.Nat.{◌-◌}
-use native.Mathlib.Omega.{arith}
-use lib.ListN.{length, get_or}
-use Rattle.cutting.proofs.MoveLaws.{Carried, carried_none, carried-next, first, next, to-swap, to-cut}
-use Rattle.cutting.proofs.CutLaws.{cut-here}
+use lib.ListN.{length}
+use Rattle.cutting.proofs.MoveLaws.{Carried}
 use Rattle.cutting.proofs.cut_group.Given as goal
 
 abbrev pub invariant-loop-x : goal.invariant-loop-x

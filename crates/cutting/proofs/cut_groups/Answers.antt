@@ -1,7 +1,4 @@
-use borrow.Author.Rules.{rules}
-use Prim.Native.Nat.{◌-◌}
-use lib.ListN.{length}
-use Rattle.cutting.proofs.CutLaws.{CutBefore, uncut, to-cut-group, cut-next, all-cut}
+use Rattle.cutting.proofs.CutLaws.{uncut, to-cut-group, cut-next, all-cut}
 use Rattle.cutting.proofs.cut_groups.Goals as goal
 
 pub loop-g-init : goal.loop-g-init

@@ -1,7 +1,6 @@
-use borrow.Author.Rules.{rules}
 use Prim.Native.Nat.{◌-◌}
 use lib.ListN.{length}
-use Rattle.cutting.proofs.CutLaws.{CutBefore, uncut, to-cut-group, cut-next, all-cut}
+use Rattle.cutting.proofs.CutLaws.{CutBefore}
 use Rattle.cutting.proofs.cut_groups.Given as goal
 
 abbrev pub invariant-loop-g : goal.invariant-loop-g

@@ -2,14 +2,13 @@ use borrow.Author.Rules.{rules}
 use mathlib.Core.Path.{◌≡◌, ap, sym, ◌∙◌}
 use mathlib.Core.Bool.{true}
 use mathlib.Core.List.{List}
-use Prim.Native.Nat.{ℕ, ◌≤◌, ◌<◌, ◌-◌}
+use Prim.Native.Nat.{ℕ}
 use native.Mathlib.Omega.{arith}
 use borrow.Author.Count.{below_more}
-use lib.ListN.{length, get_or}
+use lib.ListN.{get_or}
 use Rattle.rules.proofs.Tests.{is_false}
 use Rattle.keys.specs.Keys.{key, key_on}
 use Rattle.keys.proofs.KeyLaws.{on-columns}
-use borrow.Enum.Refused.{opened}
 use Rattle.keys.proofs.alike.Goals as goal
 use Rattle.keys.proofs.alike.Goals.{After-key, After-key-in-loop-k, Else-key, Then-key}
 
@@ -43,12 +42,11 @@ returns-then-key c =
     }
 
 pub loop-k-preserved : goal.loop-k-preserved
-loop-k-preserved c =
-    (
-      search rules,
-      below_more (On c.args.cells.now c.args.class.now c.args.bytes.now c.args.from c.args.a c.args.b) c.loop-k.k c.loop-k.invariant.1
-          (sym (key-a (goal.at.loop-k-preserved (goal.at.loop-k-preserved c).Else-key).After-key) ∙ c.if-key.false ∙ key-b (goal.at.loop-k-preserved (goal.at.loop-k-preserved c).Else-key).After-key-in-loop-k),
-    )
+loop-k-preserved c = (
+  search rules,
+  below_more (On c.args.cells.now c.args.class.now c.args.bytes.now c.args.from c.args.a c.args.b) c.loop-k.k c.loop-k.invariant.1
+      (sym (key-a (goal.at.loop-k-preserved (goal.at.loop-k-preserved c).Else-key).After-key) ∙ c.if-key.false ∙ key-b (goal.at.loop-k-preserved (goal.at.loop-k-preserved c).Else-key).After-key-in-loop-k),
+)
 
 pub returns : goal.returns
 returns c =

@@ -1,15 +1,8 @@
-use borrow.Author.Rules.{rules}
-use mathlib.Core.Path.{◌≡◌, ap, sym, ◌∙◌}
-use mathlib.Core.Bool.{true}
+use mathlib.Core.Path.{◌≡◌}
 use mathlib.Core.List.{List}
 use Prim.Native.Nat.{ℕ, ◌≤◌, ◌<◌, ◌-◌}
-use native.Mathlib.Omega.{arith}
-use borrow.Author.Count.{below_more}
 use lib.ListN.{length, get_or}
-use Rattle.rules.proofs.Tests.{is_false}
-use Rattle.keys.specs.Keys.{key, key_on}
-use Rattle.keys.proofs.KeyLaws.{on-columns}
-use borrow.Enum.Refused.{opened}
+use Rattle.keys.specs.Keys.{key_on}
 use Rattle.keys.proofs.alike.Given as goal
 
 -- rows a and b go to classes of one key on column j

@@ -1,7 +1,6 @@
 use mathlib.Core.Path.{sym}
 use native.Mathlib.Omega.{arith}
 use Rattle.keys.proofs.KeyLaws.{key-low, key-high}
-use borrow.Enum.Refused.{opened}
 use Rattle.keys.proofs.key.Goals as goal
 
 pub returns-then-x-from : goal.returns-then-x-from

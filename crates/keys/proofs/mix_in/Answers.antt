@@ -1,8 +1,6 @@
-use borrow.Author.Rules.{rules}
 use mathlib.Core.Path.{◌∙◌, ap}
 use Prim.Native.Nat.{ℕ, ◌+◌, ◌*◌}
 use Rattle.keys.proofs.KeyLaws.{mixed-past, mixed-key}
-use borrow.Enum.Refused.{opened}
 use Rattle.keys.proofs.mix_in.Goals as goal
 
 pub returns-then-x-eq0 : goal.returns-then-x-eq0

@@ -1,11 +1,10 @@
 use borrow.Author.Rules.{rules}
 use mathlib.Core.Path.{◌≡◌, refl, ap, ◌∙◌}
-use Prim.Native.Nat.{ℕ, ◌+◌, ◌≤◌, ◌-◌}
+use Prim.Native.Nat.{ℕ, ◌+◌}
 use native.Mathlib.Omega.{arith}
-use lib.ListN.{length, get_or, drop}
-use Rattle.keys.specs.Keys.{key, key_on, mixed_in, all_mixed}
-use Rattle.keys.proofs.KeyLaws.{mixed-more, mixed-end, Seen, seen_none, seen_more, seen_all}
-use borrow.Enum.Refused.{opened}
+use lib.ListN.{get_or}
+use Rattle.keys.specs.Keys.{key, key_on, mixed_in}
+use Rattle.keys.proofs.KeyLaws.{mixed-more, mixed-end, seen_none, seen_more, seen_all}
 use Rattle.keys.proofs.mix_row.Goals as goal
 use Rattle.keys.proofs.mix_row.Goals.{After-key-x, After-mix_in-h}
 
@@ -21,13 +20,12 @@ loop-k-init c =
     (search rules, refl, seen_none c.args.cells.now c.args.class.now c.args.from c.args.bytes.now c.args.r)
 
 pub loop-k-preserved : goal.loop-k-preserved
-loop-k-preserved c =
-    (
-      search rules,
-      mixed-more c.args.cells.now c.args.class.now c.args.from c.args.bytes.now c.args.r c.loop-k.k c.loop-k.h (omega arith)
-          (c.mix_in-h.ensures ∙ ap (λ (x : ℕ). mixed_in c.loop-k.h (get_or c.args.bytes.now c.loop-k.k 0) x) (key_in (goal.at.loop-k-preserved (goal.at.loop-k-preserved c).After-mix_in-h).After-key-x)) c.loop-k.invariant.1,
-      seen_more c.loop-k.any c.key-x.result c.loop-k.invariant.2 (omega (arith, c.shared_slice_known-in-loop-k-1.given c.loop-k.k)) (key_in (goal.at.loop-k-preserved (goal.at.loop-k-preserved c).After-mix_in-h).After-key-x),
-    )
+loop-k-preserved c = (
+  search rules,
+  mixed-more c.args.cells.now c.args.class.now c.args.from c.args.bytes.now c.args.r c.loop-k.k c.loop-k.h (omega arith)
+      (c.mix_in-h.ensures ∙ ap (λ (x : ℕ). mixed_in c.loop-k.h (get_or c.args.bytes.now c.loop-k.k 0) x) (key_in (goal.at.loop-k-preserved (goal.at.loop-k-preserved c).After-mix_in-h).After-key-x)) c.loop-k.invariant.1,
+  seen_more c.loop-k.any c.key-x.result c.loop-k.invariant.2 (omega (arith, c.shared_slice_known-in-loop-k-1.given c.loop-k.k)) (key_in (goal.at.loop-k-preserved (goal.at.loop-k-preserved c).After-mix_in-h).After-key-x),
+)
 
 pub overflow_cast-class : goal.overflow_cast-class
 overflow_cast-class c = omega (arith, c.shared_slice_known-4-1.given c.args.r)
@@ -36,13 +34,12 @@ pub overflow_add-mix : goal.overflow_add-mix
 overflow_add-mix c = omega (arith, c.shared_slice_known-4-1.given c.args.r, c.mix.ensures.1)
 
 pub returns : goal.returns
-returns c =
-    (
-      seen_all c.requires.0.columns (omega arith) (omega arith) c.loop-k.invariant.2,
-      (
-        c.bucket_of-b.ensures.1,
-        c.bucket_of-b.ensures.0
-            ∙ mixed-end c.args.cells.now c.args.class.now c.args.from c.args.bytes.now c.args.r c.loop-k.k c.loop-k.h (omega arith)
-            (ap (λ (x : ℕ). x + get_or c.args.class.now c.args.r 0) c.mix.ensures.0) c.loop-k.invariant.1,
-      ),
-    )
+returns c = (
+  seen_all c.requires.0.columns (omega arith) (omega arith) c.loop-k.invariant.2,
+  (
+    c.bucket_of-b.ensures.1,
+    c.bucket_of-b.ensures.0
+        ∙ mixed-end c.args.cells.now c.args.class.now c.args.from c.args.bytes.now c.args.r c.loop-k.k c.loop-k.h (omega arith)
+        (ap (λ (x : ℕ). x + get_or c.args.class.now c.args.r 0) c.mix.ensures.0) c.loop-k.invariant.1,
+  ),
+)

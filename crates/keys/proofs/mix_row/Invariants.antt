@@ -1,11 +1,8 @@
-use borrow.Author.Rules.{rules}
-use mathlib.Core.Path.{◌≡◌, refl, ap, ◌∙◌}
-use Prim.Native.Nat.{ℕ, ◌+◌, ◌≤◌, ◌-◌}
-use native.Mathlib.Omega.{arith}
-use lib.ListN.{length, get_or, drop}
-use Rattle.keys.specs.Keys.{key, key_on, mixed_in, all_mixed}
-use Rattle.keys.proofs.KeyLaws.{mixed-more, mixed-end, Seen, seen_none, seen_more, seen_all}
-use borrow.Enum.Refused.{opened}
+use mathlib.Core.Path.{◌≡◌}
+use Prim.Native.Nat.{◌≤◌, ◌-◌}
+use lib.ListN.{length, drop}
+use Rattle.keys.specs.Keys.{all_mixed}
+use Rattle.keys.proofs.KeyLaws.{Seen}
 use Rattle.keys.proofs.mix_row.Given as goal
 
 abbrev pub invariant-loop-k : goal.invariant-loop-k

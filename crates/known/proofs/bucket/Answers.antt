@@ -1,7 +1,5 @@
-use borrow.Author.Rules.{rules}
 use native.Mathlib.Omega.{arith}
 use Rattle.known.proofs.Mixed.{bucket-none, bucket-some}
-use borrow.Enum.Refused.{opened}
 use Rattle.known.proofs.bucket.Goals as goal
 
 pub mix_all-h-requires : goal.mix_all-h-requires

@@ -1,8 +1,6 @@
 use mathlib.Core.Path.{refl}
 use native.Mathlib.Omega.{arith}
-use lib.ListN.{length}
-use Rattle.known.proofs.Buckets.{Sought, sought-first, sought-none, sought-row, sought-at, sought-next}
-use borrow.Enum.Refused.{opened}
+use Rattle.known.proofs.Buckets.{sought-first, sought-none, sought-row, sought-at, sought-next}
 use Rattle.known.proofs.find.Goals as goal
 
 pub loop-r-init : goal.loop-r-init

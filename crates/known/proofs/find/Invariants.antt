@@ -1,8 +1,5 @@
-use mathlib.Core.Path.{refl}
-use native.Mathlib.Omega.{arith}
 use lib.ListN.{length}
-use Rattle.known.proofs.Buckets.{Sought, sought-first, sought-none, sought-row, sought-at, sought-next}
-use borrow.Enum.Refused.{opened}
+use Rattle.known.proofs.Buckets.{Sought}
 use Rattle.known.proofs.find.Given as goal
 
 abbrev pub invariant-loop-r : goal.invariant-loop-r

@@ -1,8 +1,6 @@
-use borrow.Author.Rules.{rules}
 use native.Mathlib.Omega.{arith}
 use lib.ListN.{length}
 use Rattle.known.proofs.Buckets.{told-apart, same-row}
-use borrow.Enum.Refused.{opened}
 use Rattle.known.proofs.has_set.Goals as goal
 
 pub returns-then-sets-at : goal.returns-then-sets-at

@@ -1,11 +1,7 @@
-use borrow.Author.Rules.{rules}
 use mathlib.Core.Path.{◌≡◌}
 use Prim.Native.Nat.{◌-◌, ◌≤◌}
-use native.Mathlib.Omega.{arith}
 use lib.ListN.{drop}
 use Rattle.known.specs.Known.{all_mixed}
-use Rattle.known.proofs.Mixed.{mixed-first, mixed-more, mixed-end}
-use borrow.Enum.Refused.{opened}
 use Rattle.known.proofs.mix_all.Given as goal
 
 abbrev pub invariant-loop-i : goal.invariant-loop-i

@@ -1,8 +1,6 @@
 use mathlib.Core.Path.{◌∙◌, ap}
 use Prim.Native.Nat.{ℕ, ◌+◌, ◌*◌}
 use Rattle.known.proofs.Mixed.{mixed-past, mixed-word}
-use borrow.Author.Rules.{rules}
-use borrow.Enum.Refused.{opened}
 use Rattle.known.proofs.mix_in.Goals as goal
 
 pub returns-then-word-eq0 : goal.returns-then-word-eq0

@@ -1,6 +1,4 @@
 use Rattle.known.proofs.Buckets.{store-row}
-use borrow.Author.Rules.{rules}
-use borrow.Enum.Refused.{opened}
 use Rattle.known.proofs.store.Goals as goal
 
 pub returns : goal.returns

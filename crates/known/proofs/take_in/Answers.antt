@@ -1,7 +1,5 @@
-use borrow.Author.Rules.{rules}
 use native.Mathlib.Omega.{arith}
 use Rattle.known.proofs.Buckets.{empty-row, found-row}
-use borrow.Enum.Refused.{opened}
 use Rattle.known.proofs.take_in.Goals as goal
 
 pub bucket-k-requires : goal.bucket-k-requires

@@ -1,8 +1,6 @@
-use borrow.Author.Rules.{rules}
 use mathlib.Core.Path.{sym}
 use native.Mathlib.Omega.{arith}
 use Rattle.known.proofs.Buckets.{lent, find-asks, found_at, found_none, took-new}
-use borrow.Enum.Refused.{opened}
 use Rattle.known.proofs.take_into.Goals as goal
 
 pub slice_bounds-find-end-2 : goal.slice_bounds-find-end-2

@@ -1,9 +1,6 @@
 use borrow.Author.Rules.{rules}
-use mathlib.Core.Path.{◌≡◌, refl, sym}
+use mathlib.Core.Path.{refl, sym}
 use native.Mathlib.Omega.{arith}
-use Prim.Native.Nat.{◌-◌, ◌≤◌}
-use lib.ListN.{length}
-use Rattle.marks.specs.Marks.{MarkedTo}
 use Rattle.marks.proofs.MarkLaws.{marked-none, marked_all}
 use Rattle.marks.proofs.sort.Goals as goal
 
@@ -15,9 +12,9 @@ slice_bounds-sort_row-end c = sym c.loop-r.invariant.4.long
 
 pub sort_row-groups-requires : goal.sort_row-groups-requires
 sort_row-groups-requires c = record {
-      marks_len_bound = omega (arith, c.loop-r.invariant, c.requires);
-      marked_to = c.loop-r.invariant.4;
-    }
+  marks_len_bound = omega (arith, c.loop-r.invariant, c.requires);
+  marked_to = c.loop-r.invariant.4;
+}
 
 pub loop-r-preserved : goal.loop-r-preserved
 loop-r-preserved c = (search rules, search rules, search rules, omega arith, c.sort_row-groups.ensures)

@@ -1,10 +1,7 @@
-use borrow.Author.Rules.{rules}
-use mathlib.Core.Path.{◌≡◌, refl, sym}
-use native.Mathlib.Omega.{arith}
+use mathlib.Core.Path.{◌≡◌}
 use Prim.Native.Nat.{◌-◌, ◌≤◌}
 use lib.ListN.{length}
 use Rattle.marks.specs.Marks.{MarkedTo}
-use Rattle.marks.proofs.MarkLaws.{marked-none, marked_all}
 use Rattle.marks.proofs.sort.Given as goal
 
 abbrev pub invariant-loop-r : goal.invariant-loop-r

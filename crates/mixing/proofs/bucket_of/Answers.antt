@@ -2,7 +2,6 @@ use mathlib.Core.Path.{ap}
 use Prim.Native.Nat.{ℕ, ◌/◌, ◌%◌, ◌^◌}
 use native.Mathlib.Omega.{arith}
 use Rattle.mixing.specs.Mixing.{buckets}
-use borrow.Author.Rules.{rules}
 use Rattle.mixing.proofs.bucket_of.Goals as goal
 
 pub returns : goal.returns

@@ -1,7 +1,6 @@
 use mathlib.Core.Path.{refl}
 use native.Mathlib.Omega.{arith}
 use Rattle.mixing.proofs.MixingLaws.{mixed-lt}
-use borrow.Author.Rules.{rules}
 use Rattle.mixing.proofs.mix.Goals as goal
 
 pub overflow_add-result : goal.overflow_add-result

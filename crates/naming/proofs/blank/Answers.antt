@@ -1,10 +1,10 @@
 use borrow.Author.Rules.{rules}
 use mathlib.Core.Path.{◌≡◌, ap, ◌∙◌}
 use mathlib.Core.List.{List, ◌++◌, append-nil}
-use Prim.Native.Nat.{ℕ, ◌≤◌, ◌-◌}
+use Prim.Native.Nat.{ℕ}
 use native.Mathlib.Omega.{arith}
 use borrow.Author.Fill.{fill_more}
-use lib.ListN.{length, set, drop, replicate, length-set, drop_of_length-le}
+use lib.ListN.{length, set, replicate, length-set, drop_of_length-le}
 use Rattle.rules.specs.Sizes.{rows_most}
 use Rattle.naming.proofs.blank.Goals as goal
 

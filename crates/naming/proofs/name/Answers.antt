@@ -1,10 +1,8 @@
-use borrow.Author.Rules.{rules}
 use mathlib.Core.Path.{◌≡◌, ap, ◌∙◌}
-use Prim.Native.Nat.{ℕ, ◌≤◌, ◌-◌}
+use Prim.Native.Nat.{ℕ}
 use native.Mathlib.Omega.{arith}
 use lib.ListN.{length, replicate}
 use Rattle.rules.specs.Sizes.{rows_most}
-use Rattle.naming.specs.Naming.{NamedTo}
 use Rattle.naming.proofs.NamingLaws.{named_none}
 use Rattle.naming.proofs.name.Goals as goal
 

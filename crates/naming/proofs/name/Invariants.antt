@@ -1,11 +1,6 @@
-use borrow.Author.Rules.{rules}
-use mathlib.Core.Path.{◌≡◌, ap, ◌∙◌}
-use Prim.Native.Nat.{ℕ, ◌≤◌, ◌-◌}
-use native.Mathlib.Omega.{arith}
-use lib.ListN.{length, replicate}
-use Rattle.rules.specs.Sizes.{rows_most}
+use Prim.Native.Nat.{◌≤◌, ◌-◌}
+use lib.ListN.{length}
 use Rattle.naming.specs.Naming.{NamedTo}
-use Rattle.naming.proofs.NamingLaws.{named_none}
 use Rattle.naming.proofs.name.Given as goal
 
 abbrev pub invariant-loop-r : goal.invariant-loop-r

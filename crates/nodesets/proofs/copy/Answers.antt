@@ -1,9 +1,7 @@
 use borrow.Author.Rules.{rules}
-use mathlib.Core.Path.{◌≡◌, refl}
-use Prim.Native.Nat.{◌-◌, ◌≤◌}
+use mathlib.Core.Path.{refl}
 use native.Mathlib.Omega.{arith}
-use lib.ListN.{length}
-use Rattle.nodesets.proofs.NodeSetLaws.{Agree, agree_same, agree-set}
+use Rattle.nodesets.proofs.NodeSetLaws.{agree_same, agree-set}
 use Rattle.nodesets.proofs.copy.Goals as goal
 
 pub loop-i-init : goal.loop-i-init

@@ -1,9 +1,7 @@
-use borrow.Author.Rules.{rules}
-use mathlib.Core.Path.{◌≡◌, refl}
+use mathlib.Core.Path.{◌≡◌}
 use Prim.Native.Nat.{◌-◌, ◌≤◌}
-use native.Mathlib.Omega.{arith}
 use lib.ListN.{length}
-use Rattle.nodesets.proofs.NodeSetLaws.{Agree, agree_same, agree-set}
+use Rattle.nodesets.proofs.NodeSetLaws.{Agree}
 use Rattle.nodesets.proofs.copy.Given as goal
 
 abbrev pub invariant-loop-i : goal.invariant-loop-i

@@ -1,9 +1,6 @@
 use borrow.Author.Rules.{rules}
-use mathlib.Core.Path.{◌≡◌}
-use Prim.Native.Nat.{ℕ, ◌-◌, ◌≤◌, ◌<◌}
 use native.Mathlib.Omega.{arith}
 use borrow.Author.Count.{below_more}
-use lib.ListN.{length, get_or}
 use Rattle.nodesets.proofs.first_used.Goals as goal
 
 pub loop-i-init : goal.loop-i-init

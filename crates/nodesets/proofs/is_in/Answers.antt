@@ -1,6 +1,5 @@
 use mathlib.Core.Path.{◌∙◌, sym}
 use Rattle.nodesets.proofs.NodeSetLaws.{mask-has}
-use borrow.Author.Rules.{rules}
 use Rattle.nodesets.proofs.is_in.Goals as goal
 
 pub returns : goal.returns

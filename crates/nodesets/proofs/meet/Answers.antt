@@ -1,10 +1,8 @@
 use borrow.Author.Rules.{rules}
-use mathlib.Core.Path.{◌≡◌, sym, ◌∙◌}
-use Prim.Native.Nat.{◌-◌, ◌≤◌}
+use mathlib.Core.Path.{sym, ◌∙◌}
 use native.Mathlib.Omega.{arith}
-use lib.ListN.{length}
 use Rattle.nodesets.specs.NodeSets.{meets}
-use Rattle.nodesets.proofs.NodeSetLaws.{Agree, agree_same, agree-set, get_or-meets, length_meets}
+use Rattle.nodesets.proofs.NodeSetLaws.{agree_same, agree-set, get_or-meets, length_meets}
 use Rattle.nodesets.proofs.meet.Goals as goal
 
 pub loop-i-init : goal.loop-i-init

@@ -1,10 +1,8 @@
-use borrow.Author.Rules.{rules}
-use mathlib.Core.Path.{◌≡◌, sym, ◌∙◌}
+use mathlib.Core.Path.{◌≡◌}
 use Prim.Native.Nat.{◌-◌, ◌≤◌}
-use native.Mathlib.Omega.{arith}
 use lib.ListN.{length}
 use Rattle.nodesets.specs.NodeSets.{meets}
-use Rattle.nodesets.proofs.NodeSetLaws.{Agree, agree_same, agree-set, get_or-meets, length_meets}
+use Rattle.nodesets.proofs.NodeSetLaws.{Agree}
 use Rattle.nodesets.proofs.meet.Given as goal
 
 abbrev pub invariant-loop-i : goal.invariant-loop-i

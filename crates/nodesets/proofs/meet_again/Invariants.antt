@@ -1,7 +1,5 @@
-use borrow.Author.Rules.{rules}
 use Prim.Native.Nat.{◌-◌, ◌≤◌}
-use native.Mathlib.Omega.{arith}
-use Rattle.nodesets.proofs.NodeSetLaws.{Again, again-first, again-more, again-end}
+use Rattle.nodesets.proofs.NodeSetLaws.{Again}
 use Rattle.nodesets.proofs.meet_again.Given as goal
 
 abbrev pub invariant-loop-i : goal.invariant-loop-i

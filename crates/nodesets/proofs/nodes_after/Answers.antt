@@ -1,10 +1,8 @@
 use borrow.Author.Rules.{rules}
 use mathlib.Core.Path.{◌≡◌, refl}
-use mathlib.Core.List.{◌++◌}
-use Prim.Native.Nat.{◌-◌, ◌/◌, ◌%◌, ◌^◌, ◌≤◌, ◌<◌}
+use Prim.Native.Nat.{◌/◌, ◌%◌, ◌^◌}
 use native.Mathlib.Omega.{arith}
-use lib.ListN.{length, get_or, take, drop}
-use Rattle.nodesets.specs.NodeSets.{doubled}
+use lib.ListN.{get_or}
 use Rattle.nodesets.proofs.NodeSetLaws.{doubled-more, doubled-end}
 use Rattle.nodesets.proofs.nodes_after.Goals as goal
 

@@ -1,11 +1,8 @@
-use borrow.Author.Rules.{rules}
-use mathlib.Core.Path.{◌≡◌, refl}
+use mathlib.Core.Path.{◌≡◌}
 use mathlib.Core.List.{◌++◌}
-use Prim.Native.Nat.{◌-◌, ◌/◌, ◌%◌, ◌^◌, ◌≤◌, ◌<◌}
-use native.Mathlib.Omega.{arith}
-use lib.ListN.{length, get_or, take, drop}
+use Prim.Native.Nat.{◌-◌, ◌≤◌, ◌<◌}
+use lib.ListN.{length, take, drop}
 use Rattle.nodesets.specs.NodeSets.{doubled}
-use Rattle.nodesets.proofs.NodeSetLaws.{doubled-more, doubled-end}
 use Rattle.nodesets.proofs.nodes_after.Given as goal
 
 abbrev pub invariant-loop-i : goal.invariant-loop-i

@@ -1,10 +1,8 @@
-use borrow.Author.Rules.{rules}
 use mathlib.Core.Path.{◌≡◌}
 use mathlib.Core.Logic.{◌↔◌}
 use Prim.Native.Nat.{◌-◌, ◌≤◌}
-use native.Mathlib.Omega.{arith}
 use lib.ListN.{length}
-use Rattle.nodesets.proofs.NodeSetLaws.{Agree, apart_more, same_test}
+use Rattle.nodesets.proofs.NodeSetLaws.{Agree}
 use Rattle.nodesets.proofs.same.Given as goal
 
 abbrev pub invariant-loop-i : goal.invariant-loop-i

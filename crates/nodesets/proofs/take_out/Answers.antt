@@ -1,6 +1,5 @@
 use native.Mathlib.Omega.{arith}
 use Rattle.nodesets.proofs.NodeSetLaws.{lowest-lt, shifted-le, mask-out}
-use borrow.Author.Rules.{rules}
 use Rattle.nodesets.proofs.take_out.Goals as goal
 
 pub overflow_cast-set : goal.overflow_cast-set

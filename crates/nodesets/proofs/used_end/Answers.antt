@@ -1,8 +1,6 @@
 use borrow.Author.Rules.{rules}
-use mathlib.Core.Path.{◌≡◌}
-use Prim.Native.Nat.{ℕ, ◌-◌, ◌≤◌}
 use native.Mathlib.Omega.{arith}
-use lib.ListN.{length, get_or, get_or-eq_default}
+use lib.ListN.{get_or-eq_default}
 use Rattle.nodesets.proofs.NodeSetLaws.{unused-more}
 use Rattle.nodesets.proofs.used_end.Goals as goal
 

@@ -5,7 +5,6 @@ use Rattle.rules.specs.Tools.{range, with_all}
 use Rattle.program.specs.Program.{operation_at, atom_words}
 use Rattle.bytesets.proofs.ByteSetLaws.{one_byte}
 use Rattle.program.proofs.ProgramLaws.{bytes-at, class-room, four-here, no-atom}
-use borrow.Author.Rules.{rules}
 use borrow.Enum.Refused.{opened}
 use Rattle.program.proofs.atom_set.Goals as goal
 

@@ -1,11 +1,9 @@
 use mathlib.Core.Path.{sym}
 use Prim.Native.Nat.{◌/◌, ◌%◌}
-use borrow.Author.Rules.{rules}
 use Rattle.program.specs.Program.{operation_of, kinds}
 use Rattle.signs.specs.declared.count.Repeat.TheVariants.{AtLeast}
 use Rattle.program.specs.declared.Op.TheVariants.{Repeated}
 use Rattle.signs.proofs.Tables.{no_key}
-use borrow.Enum.Refused.{opened}
 use Rattle.program.proofs.operation.Goals as goal
 
 pub returns-in-0 : goal.returns-in-0

@@ -1,6 +1,4 @@
 use Rattle.program.proofs.ProgramLaws.{put-there}
-use borrow.Author.Rules.{rules}
-use borrow.Enum.Refused.{opened}
 use Rattle.program.proofs.put.Goals as goal
 
 -- `put`

@@ -1,8 +1,6 @@
 use native.Mathlib.Omega.{arith}
 use lib.ListN.{length-set}
 use Rattle.program.proofs.ProgramLaws.{class-there}
-use borrow.Author.Rules.{rules}
-use borrow.Enum.Refused.{opened}
 use Rattle.program.proofs.put_class.Goals as goal
 
 -- `put_class`

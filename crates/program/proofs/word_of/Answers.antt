@@ -3,8 +3,6 @@ use native.Mathlib.Omega.{arith}
 use Rattle.program.specs.Program.{operation_of}
 use Rattle.program.specs.declared.Op.TheVariants.{Repeated}
 use Rattle.program.proofs.ProgramLaws.{byte_word, row_word, either-word, times-word, least-word}
-use borrow.Author.Rules.{rules}
-use borrow.Enum.Refused.{opened}
 use Rattle.program.proofs.word_of.Goals as goal
 
 -- `word_of`

@@ -1,8 +1,5 @@
-use borrow.Author.Rules.{rules}
-use Prim.Native.Nat.{◌-◌}
 use native.Mathlib.Omega.{arith}
-use lib.ListN.{length}
-use Rattle.sets.proofs.SetLaws.{Joined, joined-none, joined-more, joined-all}
+use Rattle.sets.proofs.SetLaws.{joined-none, joined-more, joined-all}
 use Rattle.sets.proofs.put_all.Goals as goal
 
 pub loop-i-init : goal.loop-i-init

@@ -1,4 +1,3 @@
-use borrow.Author.Rules.{rules}
 use mathlib.Core.Path.{refl}
 use Rattle.sets.specs.Sets.{member}
 use Rattle.sets.proofs.test.Goals as goal

@@ -1,4 +1,3 @@
-use borrow.Author.Rules.{rules}
 use native.Mathlib.Omega.{arith}
 use Rattle.stretches.proofs.StretchLaws.{lined-placed, lined-stretches}
 use Rattle.stretches.proofs.begin.Goals as goal

@@ -1,4 +1,3 @@
-use borrow.Author.Rules.{rules}
 use native.Mathlib.Omega.{arith}
 use Rattle.stretches.proofs.StretchLaws.{many-few}
 use Rattle.stretches.proofs.CutLaws.{uncut-start, uncut-end}

@@ -1,9 +1,7 @@
 use borrow.Author.Rules.{rules}
 use mathlib.Core.Path.{◌≡◌}
-use Prim.Native.Nat.{◌≤◌, ◌-◌}
 use native.Mathlib.Omega.{arith}
 use lib.ListN.{length}
-use Rattle.stretches.specs.Stretches.{LinedUp}
 use Rattle.stretches.proofs.StretchLaws.{lined-none, lined-more}
 use Rattle.stretches.proofs.line_up.Goals as goal
 

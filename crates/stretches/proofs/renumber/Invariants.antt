@@ -1,10 +1,6 @@
-use borrow.Author.Rules.{rules}
-use mathlib.Core.Path.{◌≡◌}
 use Prim.Native.Nat.{◌≤◌, ◌-◌}
-use native.Mathlib.Omega.{arith}
 use lib.ListN.{length}
 use Rattle.stretches.specs.Stretches.{Renumbered}
-use Rattle.stretches.proofs.CutLaws.{renumbered-none, renumbered-more}
 use Rattle.stretches.proofs.renumber.Given as goal
 
 abbrev pub invariant-loop-p : goal.invariant-loop-p

@@ -1,4 +1,3 @@
-use borrow.Author.Rules.{rules}
 use native.Mathlib.Omega.{arith}
 use Rattle.stretches.proofs.SwapLaws.{swapped}
 use Rattle.stretches.proofs.swap.Goals as goal

@@ -1,14 +1,8 @@
-use mathlib.Core.Path.{◌≡◌, ap, ◌∙◌}
-use mathlib.Core.Bool.{Bool, ◌&&◌}
-use Prim.Native.Nat.{ℕ, ◌-◌, ◌≤◌}
-use native.Mathlib.Omega.{arith}
+use mathlib.Core.Path.{◌≡◌}
+use Prim.Native.Nat.{◌-◌, ◌≤◌}
 use lib.Dec.{leb, eqb}
 use lib.ListN.{length, take}
-use lib.Seq.{take_all}
-use borrow.Author.Rules.{rules}
 use Rattle.rules.specs.Tools.{all}
-use Rattle.rules.proofs.TableLaws.{all-on}
-use Rattle.table.proofs.CellLaws.{bits_none, not-past}
 use Rattle.table.proofs.all_past.Given as goal
 
 -- `all_past` meets its contract: no cell that was passed lies past the last row exactly if `far` is 0.

@@ -1,14 +1,8 @@
-use mathlib.Core.Path.{◌≡◌, ap, ◌∙◌}
-use mathlib.Core.Bool.{Bool, ◌&&◌}
+use mathlib.Core.Path.{◌≡◌}
 use Prim.Native.Nat.{◌-◌, ◌≤◌}
-use native.Mathlib.Omega.{arith}
 use lib.Dec.{eqb}
 use lib.ListN.{length, take}
-use lib.Seq.{take_all}
-use borrow.Author.Rules.{rules}
 use Rattle.rules.specs.Tools.{all}
-use Rattle.rules.proofs.TableLaws.{all-on}
-use Rattle.table.proofs.CellLaws.{bits_none, no-bit}
 use Rattle.table.proofs.all_to.Given as goal
 
 -- `all_to` meets its contract: every cell that was passed is the row exactly if `differing` is 0.

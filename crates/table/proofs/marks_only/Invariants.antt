@@ -1,12 +1,8 @@
-use mathlib.Core.Path.{◌≡◌, ap, ◌∙◌}
+use mathlib.Core.Path.{◌≡◌}
 use Prim.Native.Nat.{◌-◌, ◌≤◌}
-use native.Mathlib.Omega.{arith}
 use lib.ListN.{length, take}
-use lib.Seq.{take_all}
-use borrow.Author.Rules.{rules}
 use Rattle.rules.specs.Table.{is_mark}
 use Rattle.rules.specs.Tools.{all}
-use Rattle.rules.proofs.TableLaws.{all-on}
 use Rattle.table.proofs.marks_only.Given as goal
 
 -- `marks_only` meets its contract: every mark that was passed is 0, 2 or 3 exactly if `good`.

@@ -3,7 +3,6 @@ use Prim.Native.Nat.{ℕ, ◌+◌, ◌*◌, ◌-◌}
 use native.Mathlib.Omega.{arith}
 use lib.Dec.{eqb}
 use lib.ListN.{take, drop}
-use borrow.Author.Rules.{rules}
 use Rattle.rules.specs.Tools.{all}
 use Rattle.table.proofs.StaysLaws.{leaves}
 use Rattle.table.proofs.no_byte_leaves.Goals as goal

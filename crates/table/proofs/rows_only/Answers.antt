@@ -2,7 +2,6 @@ use mathlib.Core.Path.{ap, sym, ◌∙◌}
 use Prim.Native.Nat.{ℕ}
 use native.Mathlib.Omega.{arith}
 use lib.Dec.{ltb}
-use borrow.Author.Rules.{rules}
 use Rattle.rules.specs.Tools.{all}
 use Rattle.table.proofs.CellLaws.{rows_none, rows-some}
 use Rattle.table.proofs.rows_only.Goals as goal

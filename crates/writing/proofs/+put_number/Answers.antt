@@ -1,11 +1,8 @@
-use borrow.Author.Rules.{rules}
 use mathlib.Core.Path.{ap}
 use native.Mathlib.Omega.{arith}
 use lib.ListN.{length}
 use Rattle.writing.proofs.Numbers.{decimal_digit, decimal-more, decimal-length}
 use Rattle.writing.proofs.Writings.{join}
-use Prim.Native.Nat.{ℕ, ◌<◌}
-use borrow.Enum.Refused.{opened}
 use Rattle.writing.proofs.+put_number.Goals as goal
 
 pub put-requires : goal.put-requires

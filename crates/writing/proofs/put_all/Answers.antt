@@ -1,12 +1,12 @@
 use borrow.Author.Rules.{rules}
 use mathlib.Core.Path.{◌≡◌}
 use mathlib.Core.List.{List, [], ◌∷◌, ◌++◌}
-use Prim.Native.Nat.{ℕ, ◌+◌, ◌-◌, ◌≤◌, ◌<◌}
+use Prim.Native.Nat.{ℕ, ◌+◌, ◌<◌}
 use native.Mathlib.Omega.{arith}
 use native.Mathlib.Numerals.{add-one}
 use lib.ListN.{length, get_or, drop, drop_of_length-le, length-drop}
 use lib.Seq.{drop-cons}
-use Rattle.writing.proofs.Writings.{Left, left-all, left_less, left-none, left-length}
+use Rattle.writing.proofs.Writings.{left-all, left_less, left-none, left-length}
 use Rattle.writing.proofs.put_all.Goals as goal
 
 byte-ahead : (text : List ℕ) (i : ℕ) → i < length text → drop i text ≡ (get_or text i 0 ∷ []) ++ drop (i + 1) text

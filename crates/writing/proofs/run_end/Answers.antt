@@ -1,7 +1,5 @@
 use borrow.Author.Rules.{rules}
-use Prim.Native.Nat.{◌-◌}
-use lib.ListN.{length}
-use Rattle.writing.proofs.RunLaws.{Lasts, lasts-one, lasts-more, ends-inside, ends_last}
+use Rattle.writing.proofs.RunLaws.{lasts-one, lasts-more, ends-inside, ends_last}
 use Rattle.writing.proofs.run_end.Goals as goal
 
 pub loop-hi-init : goal.loop-hi-init

@@ -1,7 +1,6 @@
-use borrow.Author.Rules.{rules}
 use Prim.Native.Nat.{◌-◌}
 use lib.ListN.{length}
-use Rattle.writing.proofs.RunLaws.{Lasts, lasts-one, lasts-more, ends-inside, ends_last}
+use Rattle.writing.proofs.RunLaws.{Lasts}
 use Rattle.writing.proofs.run_end.Given as goal
 
 abbrev pub invariant-loop-hi : goal.invariant-loop-hi

@@ -1,7 +1,6 @@
-use borrow.Author.Rules.{rules}
 use Prim.Native.Nat.{◌-◌}
 use lib.ListN.{length}
-use Rattle.zeros.proofs.ZeroLaws.{Zeroed, zeroed-none, zeroed-more, zeroed-all}
+use Rattle.zeros.proofs.ZeroLaws.{Zeroed}
 use Rattle.zeros.proofs.clear_cells.Given as goal
 
 abbrev pub invariant-loop-i : goal.invariant-loop-i

@@ -1,7 +1,5 @@
 use borrow.Author.Rules.{rules}
-use Prim.Native.Nat.{◌-◌}
-use lib.ListN.{length}
-use Rattle.zeros.proofs.ZeroLaws.{Zeroed, zeroed-none, zeroed-more, zeroed-all}
+use Rattle.zeros.proofs.ZeroLaws.{zeroed-none, zeroed-more, zeroed-all}
 use Rattle.zeros.proofs.clear_sets.Goals as goal
 
 pub loop-i-init : goal.loop-i-init

@@ -1,6 +1,5 @@
 use native.Mathlib.Omega.{arith}
 use Rattle.bytesets.proofs.ByteSetLaws.{four-has}
-use borrow.Author.Rules.{rules}
 use Rattle.bytesets.proofs.ByteSet.has.Goals as goal
 
 -- `has`

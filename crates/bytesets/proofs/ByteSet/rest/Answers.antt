@@ -1,6 +1,5 @@
 use native.Mathlib.Omega.{arith}
 use Rattle.bytesets.proofs.ByteSetLaws.{rest-added}
-use borrow.Author.Rules.{rules}
 use Rattle.bytesets.proofs.ByteSet.rest.Goals as goal
 
 -- `rest`

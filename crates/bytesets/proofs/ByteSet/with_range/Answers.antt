@@ -1,6 +1,5 @@
 use native.Mathlib.Omega.{arith}
 use Rattle.bytesets.proofs.ByteSetLaws.{words-added}
-use borrow.Author.Rules.{rules}
 use Rattle.bytesets.proofs.ByteSet.with_range.Goals as goal
 
 -- `with_range`

@@ -1,10 +1,6 @@
 use borrow.Author.Rules.{rules}
-use mathlib.Core.Path.{◌≡◌, sym, ◌∙◌}
-use Prim.Native.Nat.{ℕ, ◌*◌, ◌≤◌, ◌<◌, ◌-◌}
+use mathlib.Core.Path.{sym, ◌∙◌}
 use native.Mathlib.Omega.{arith}
-use lib.ListN.{length}
-use Rattle.grid.specs.Rows.{row_words}
-use Rattle.leads.specs.Leads.{RowListed}
 use Rattle.leads.proofs.LeadLaws.{listed_more}
 use Rattle.leads.proofs.preds.list.Goals as goal
 

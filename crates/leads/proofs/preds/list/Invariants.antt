@@ -1,11 +1,8 @@
-use borrow.Author.Rules.{rules}
-use mathlib.Core.Path.{◌≡◌, sym, ◌∙◌}
+use mathlib.Core.Path.{◌≡◌}
 use Prim.Native.Nat.{ℕ, ◌*◌, ◌≤◌, ◌<◌, ◌-◌}
-use native.Mathlib.Omega.{arith}
 use lib.ListN.{length}
 use Rattle.grid.specs.Rows.{row_words}
 use Rattle.leads.specs.Leads.{RowListed}
-use Rattle.leads.proofs.LeadLaws.{listed_more}
 use Rattle.leads.proofs.preds.list.Given as goal
 
 abbrev pub invariant-loop-i : goal.invariant-loop-i

@@ -1,10 +1,9 @@
 use borrow.Author.Rules.{rules}
 use mathlib.Core.Path.{sym, subst}
-use Prim.Native.Nat.{ℕ, ◌≤◌, ◌<◌, ◌-◌}
+use Prim.Native.Nat.{ℕ}
 use native.Mathlib.Omega.{arith}
-use lib.ListN.{length}
 use Rattle.leads.specs.Leads.{Leads}
-use Rattle.leads.proofs.LeadLaws.{Listing, listing_none, listing-more}
+use Rattle.leads.proofs.LeadLaws.{listing_none, listing-more}
 use Rattle.leads.proofs.preds.list_row.Goals as goal
 
 pub loop-k-init : goal.loop-k-init

@@ -1,10 +1,7 @@
-use borrow.Author.Rules.{rules}
-use mathlib.Core.Path.{sym, subst}
-use Prim.Native.Nat.{ℕ, ◌≤◌, ◌<◌, ◌-◌}
-use native.Mathlib.Omega.{arith}
+use Prim.Native.Nat.{◌≤◌, ◌<◌, ◌-◌}
 use lib.ListN.{length}
 use Rattle.leads.specs.Leads.{Leads}
-use Rattle.leads.proofs.LeadLaws.{Listing, listing_none, listing-more}
+use Rattle.leads.proofs.LeadLaws.{Listing}
 use Rattle.leads.proofs.preds.list_row.Given as goal
 
 abbrev pub invariant-loop-k : goal.invariant-loop-k

@@ -1,4 +1,3 @@
-use borrow.Author.Rules.{rules}
 use native.Mathlib.Omega.{arith}
 use Rattle.leads.proofs.LeadLaws.{grown-none, put-grown}
 use Rattle.leads.proofs.preds.put_down.Goals as goal

@@ -1,10 +1,6 @@
 use borrow.Author.Rules.{rules}
-use mathlib.Core.Path.{◌≡◌, ◌∙◌}
-use Prim.Native.Nat.{◌≤◌, ◌-◌}
+use mathlib.Core.Path.{◌∙◌}
 use native.Mathlib.Omega.{arith}
-use lib.ListN.{length}
-use Rattle.grid.specs.Rows.{row_words}
-use Rattle.leads.specs.Leads.{TouchedAll}
 use Rattle.leads.proofs.LeadLaws.{all_more}
 use Rattle.leads.proofs.touched.list.Goals as goal
 

@@ -1,11 +1,8 @@
-use borrow.Author.Rules.{rules}
-use mathlib.Core.Path.{◌≡◌, ◌∙◌}
+use mathlib.Core.Path.{◌≡◌}
 use Prim.Native.Nat.{◌≤◌, ◌-◌}
-use native.Mathlib.Omega.{arith}
 use lib.ListN.{length}
 use Rattle.grid.specs.Rows.{row_words}
 use Rattle.leads.specs.Leads.{TouchedAll}
-use Rattle.leads.proofs.LeadLaws.{all_more}
 use Rattle.leads.proofs.touched.list.Given as goal
 
 abbrev pub invariant-loop-z : goal.invariant-loop-z

@@ -1,11 +1,8 @@
-use borrow.Author.Rules.{rules}
-use mathlib.Core.Path.{◌≡◌, ◌∙◌}
+use mathlib.Core.Path.{◌≡◌}
 use Prim.Native.Nat.{◌≤◌, ◌-◌}
-use native.Mathlib.Omega.{arith}
 use lib.ListN.{length}
 use Rattle.grid.specs.Rows.{row_words}
 use Rattle.leads.specs.Leads.{Grown, Touched}
-use Rattle.leads.proofs.LeadLaws.{grown-none, touched-more}
 use Rattle.leads.proofs.touched.touch.Given as goal
 
 abbrev pub invariant-loop-p : goal.invariant-loop-p

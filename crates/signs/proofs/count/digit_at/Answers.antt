@@ -1,6 +1,4 @@
 use Rattle.signs.proofs.Places.{here, at-end}
-use borrow.Author.Rules.{rules}
-use borrow.Enum.Refused.{opened}
 use Rattle.signs.proofs.count.digit_at.Goals as goal
 
 -- `digit_at`

@@ -4,8 +4,6 @@ use Rattle.rules.specs.Reader.{count}
 use Rattle.signs.specs.Answers.{number_of}
 use Rattle.signs.specs.Counts.{top}
 use Rattle.signs.proofs.Places.{read_some, read_none, stands, not_there, onward}
-use borrow.Author.Rules.{rules}
-use borrow.Enum.Refused.{opened}
 use Rattle.signs.proofs.count.read_count.Goals as goal
 
 -- `read_count`

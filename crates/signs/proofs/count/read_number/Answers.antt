@@ -3,8 +3,6 @@ use Prim.Native.Nat.{◌+◌, ◌*◌}
 use native.Mathlib.Omega.{arith}
 use Rattle.signs.specs.Answers.{value_of}
 use Rattle.signs.proofs.CountLaws.{digit-within, no_number, one-digit, two_digits, three-digits, limited-reads}
-use borrow.Author.Rules.{rules}
-use borrow.Enum.Refused.{opened}
 use Rattle.signs.proofs.count.read_number.Goals as goal
 
 -- `read_number`: none, or one to three digits.

@@ -4,8 +4,6 @@ use Rattle.signs.specs.Answers.{number_of}
 use Rattle.signs.specs.Counts.{top}
 use Rattle.signs.proofs.Places.{read_some, read_none, stands, not_there}
 use Rattle.signs.proofs.CountLaws.{top-times, top-wrong}
-use borrow.Author.Rules.{rules}
-use borrow.Enum.Refused.{opened}
 use Rattle.signs.proofs.count.read_top.Goals as goal
 
 -- `read_top`

@@ -3,7 +3,6 @@ use mathlib.Core.List.{[], ◌∷◌}
 use Rattle.rules.specs.Signs.{plain}
 use Rattle.signs.specs.Signs.{sign_of}
 use Rattle.signs.proofs.SignLaws.{special, not-special, not-sign, after-special, after-other}
-use borrow.Author.Rules.{rules}
 use borrow.Enum.Refused.{opened}
 use Rattle.signs.proofs.escape.after_backslash.Goals as goal
 

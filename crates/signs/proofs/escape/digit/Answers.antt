@@ -1,7 +1,5 @@
 use mathlib.Core.Path.{sym, ◌∙◌}
 use Rattle.signs.proofs.DigitLaws.{within_low}
-use borrow.Author.Rules.{rules}
-use borrow.Enum.Refused.{opened}
 use Rattle.signs.proofs.escape.digit.Goals as goal
 
 -- `digit`

@@ -2,8 +2,6 @@ use mathlib.Core.Path.{sym, ap, ◌∙◌}
 use mathlib.Core.Option.{some}
 use native.Mathlib.Omega.{arith}
 use Rattle.signs.proofs.DigitLaws.{within_low}
-use borrow.Author.Rules.{rules}
-use borrow.Enum.Refused.{opened}
 use Rattle.signs.proofs.escape.hex_digit.Goals as goal
 
 -- `hex_digit`

@@ -4,8 +4,6 @@ use borrow.Author.Tests.{eq-eqb, ne_eqb}
 use Rattle.rules.specs.Reader.{escape}
 use Rattle.signs.specs.Answers.{value_of}
 use Rattle.signs.proofs.Places.{here, at-end, onward}
-use borrow.Author.Rules.{rules}
-use borrow.Enum.Refused.{opened}
 use Rattle.signs.proofs.escape.read_escape.Goals as goal
 
 -- `read_escape`: a byte of the two-byte escapes, or `x` and two digits.

@@ -5,8 +5,6 @@ use lib.ListN.{get_or}
 use Rattle.signs.specs.Answers.{value_of}
 use Rattle.signs.proofs.Places.{here, at-end, two_here}
 use Rattle.signs.proofs.DigitLaws.{hex-small}
-use borrow.Author.Rules.{rules}
-use borrow.Enum.Refused.{opened}
 use Rattle.signs.proofs.escape.read_hex.Goals as goal
 
 -- `read_hex`: both bytes are digits, or there is no number.

@@ -1,5 +1,4 @@
 use borrow.Author.Tests.{le-leb, lt-leb}
-use borrow.Enum.Refused.{opened}
 use Rattle.signs.proofs.escape.within.Goals as goal
 
 -- `within`

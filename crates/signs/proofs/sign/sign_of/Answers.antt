@@ -1,7 +1,6 @@
 use mathlib.Core.Path.{sym}
 use Rattle.rules.specs.Signs.{plain, specials}
 use Rattle.signs.proofs.Tables.{no_key}
-use borrow.Enum.Refused.{opened}
 use Rattle.signs.proofs.sign.sign_of.Goals as goal
 
 pub returns-in-46 : goal.returns-in-46
