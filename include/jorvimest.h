@@ -36,7 +36,7 @@ extern "C" {
 #define JORVIMEST_VERSION_MAJOR 0
 #define JORVIMEST_VERSION_MINOR 0
 #define JORVIMEST_VERSION_PATCH 3
-#define JORVIMEST_TOOLCHAIN "rattle-kit-5b logic 064da1ca440f63e7"
+#define JORVIMEST_TOOLCHAIN "rattle-kit-13f logic dac8208d650f15bf"
 
 /* Sizes: bytes of a pattern, groups open at once, nodes of a pattern, rows of a table, bytes of a text, at most. */
 #define JORVIMEST_PATTERN_MOST 1024

@@ -1,4 +1,4 @@
-// Links the proved library; `rt staticlib jorvimest` writes it.
+// Links the proved library; `rust/archive` makes it.
 use std::path::Path;
 
 fn main() {
@@ -6,7 +6,7 @@ fn main() {
     let archive = folder.join("libjorvimest.a");
     println!("cargo::rerun-if-changed={}", archive.display());
     if !archive.is_file() {
-        println!("cargo::error=no target/staticlib/libjorvimest.a: run `rt staticlib jorvimest` in the repository's root");
+        println!("cargo::error=no target/staticlib/libjorvimest.a: run `rust/archive` in the repository's root");
         return;
     }
     println!("cargo::rustc-link-search=native={}", folder.display());

@@ -1,4 +1,6 @@
 // Reads a pattern from standard input and writes its table as a graph for Graphviz, or why it is turned away.
+#![tactic(auto)]
+
 ghost use Rattle.std.specs.Prelude.{◌≡◌, ◌≤◌, length, take};
 ghost use Rattle.rules.specs.Answers.{given};
 ghost use Rattle.io.specs.Counts.{IsPrefixLen};
@@ -49,20 +51,28 @@ fn buffer() -> [u8; 1048576]
 }
 
 // Writes the text to standard output.
-fn write(input: &[u8]) {
+fn write(output: &impl Print, error: &impl Print, input: &[u8]) {
     let mut out = buffer();
     let length = graph_whole(input, &mut out);
-    streams::write_output(&out[..length], b"draw: standard output can't be written\n");
+    streams::write_output(
+        output,
+        error,
+        &out[..length],
+        b"draw: standard output can't be written\n",
+    );
 }
 
 // 1,026 bytes of the input are enough: a longer one is too long for a pattern.
-fn main() {
+fn main(rt: HostRuntime) {
     let mut input = [0u8; PATTERN_MOST + 2];
-    let read = streams::read_input(&mut input);
+    let read = streams::read_input(&rt, &mut input);
     match read {
-        Input::Bytes(n) => write(&input[..n]),
+        Input::Bytes(n) => write(&rt.stdout(), &rt.stderr(), &input[..n]),
         Input::Unread => {
-            streams::say(b"draw: expected a pattern on standard input, and no argument\n");
+            streams::say(
+                &rt.stderr(),
+                b"draw: expected a pattern on standard input, and no argument\n",
+            );
         }
     }
 }

@@ -1,4 +1,6 @@
 // Reads a pattern from standard input and prints the listing of its table, or why it is turned away.
+#![tactic(auto)]
+
 ghost use Rattle.std.specs.Prelude.{◌≡◌, ◌≤◌, length, take};
 ghost use Rattle.rules.specs.Answers.{given};
 ghost use Rattle.rules.specs.Listing as rule;
@@ -50,20 +52,28 @@ fn buffer() -> [u8; 262144]
 }
 
 // Writes the text to standard output.
-fn print(input: &[u8]) {
+fn print(output: &impl Print, error: &impl Print, input: &[u8]) {
     let mut out = buffer();
     let length = printed_whole(input, &mut out);
-    streams::write_output(&out[..length], b"list: standard output can't be written\n");
+    streams::write_output(
+        output,
+        error,
+        &out[..length],
+        b"list: standard output can't be written\n",
+    );
 }
 
 // The first 1,026 bytes of the input decide what is printed, however long it is (`beginning-decides`).
-fn main() {
+fn main(rt: HostRuntime) {
     let mut input = [0u8; PATTERN_MOST + 2];
-    let read = streams::read_input(&mut input);
+    let read = streams::read_input(&rt, &mut input);
     match read {
-        Input::Bytes(n) => print(&input[..n]),
+        Input::Bytes(n) => print(&rt.stdout(), &rt.stderr(), &input[..n]),
         Input::Unread => {
-            streams::say(b"list: expected a pattern on standard input, and no argument\n");
+            streams::say(
+                &rt.stderr(),
+                b"list: expected a pattern on standard input, and no argument\n",
+            );
         }
     }
 }

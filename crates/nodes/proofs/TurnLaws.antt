@@ -3,11 +3,11 @@ use mathlib.Core.Path.{◌≡◌, subst}
 use mathlib.Core.List.{List}
 use Prim.Native.Nat.{ℕ, suc, ◌+◌, ◌-◌, ◌≤◌, ◌<◌}
 use native.Mathlib.Omega.{arith}
-use lib.ListN.{length, get_or}
+use lib.ListN.{length, get_or, take, drop, length-take, length-drop}
 use borrow.Rule.Slice.PartMut.{put_mid}
 use Rattle.rules.specs.Sizes.{nodes_most}
 use Rattle.rules.specs.Nodes.{size, frag}
-use Rattle.program.specs.Program.{operation_at}
+use Rattle.program.specs.Program.{program_most, operation_at}
 use Rattle.program.specs.declared.Op.{Op}
 use Rattle.kinds.specs.declared.Node.{Node}
 use Rattle.spine.specs.Parts.{Part}
@@ -21,6 +21,14 @@ use Rattle.nodes.specs.Fragments.{Fits, BuiltAs, Binds, Ready}
 -- a part of what is ready, from another node on
 pub again : {p : List ℕ} {e b d c : ℕ} {l m : Lists} → Ready p e b l → d ≤ e → Part p d → c < nodes_most → Room m → Ready p d c m
 again k i h low room = record { part = h; within = omega (arith, k.within); short = omega (arith, k.short); low = low; room = room }
+
+-- there is room in what is lent of a spine from k on
+pub lent : (k n : ℕ) (s : List ℕ) → n + k ≤ length s → n ≤ length (take (length s - k) (drop k s))
+lent k n s h = simp (length-take, length-drop) (omega arith)
+
+-- what is at the bottom of the way down
+pub bottom : {p : List ℕ} {e b c : ℕ} {l : Lists} (s : List ℕ) (k d a : ℕ) → Ready p e c l → Down p s k e b d a → (h : Part p e) → Reached p k e b d a h
+bottom {p} {e} {b} s k d a r D h = reached p s k e b d a r.within D h
 
 -- ---- up
 
@@ -99,4 +107,33 @@ module _ {p : List ℕ} {e b : ℕ} {old : Lists} {s : List ℕ} {u a : ℕ} {l 
       end = suc place;
       down = down-lent p s t (u - 1) m e b (suc place) n (omega arith) (subst (Down p s (u - 1) e b (suc place)) start next.down.1);
       built = bound l₂ (To z) f;
+    }
+
+-- what is known at a turn of the way up to a part that is ready
+pub record Turn (p s : List ℕ) (e u a x : ℕ) (l : Lists) : Type 0 where
+  pub some : 1 ≤ u
+  pub room : suc (get_or s (u - 1) 0) + (u - 1) ≤ e
+  pub within : e ≤ length p
+  pub short : e ≤ program_most
+  pub right : Part p (get_or s (u - 1) 0)
+  pub back : (joint (operation_at p (get_or s (u - 1) 0))).before ≤ a
+  pub order : a ≤ x
+  pub low : x < nodes_most
+  pub free : Room l
+
+pub turn : {p : List ℕ} {e b : ℕ} {old : Lists} {s : List ℕ} {u a : ℕ} {l : Lists} {x c : ℕ} {m : Lists} → Ready p e c m → (u ≡ 0 → ⊥)
+    → Stands p e b old s u a l x → Turn p s e u a x l
+turn {u = u} k n S =
+    let v : 1 ≤ u = omega arith in
+    let L = turn_last k.within v S k.part in
+    record {
+      some = v;
+      room = turn-within k.within v S k.part;
+      within = k.within;
+      short = k.short;
+      right = turn-right k.within v S k.part;
+      back = turn-back k.within v S;
+      order = L.0;
+      low = L.1;
+      free = L.2;
     }

@@ -1,10 +1,11 @@
 // Reads patterns from standard input, one a line, and prints what reading each comes to: the length of its program in words, or the
 // refusal. In a line `%` and two digits of base 16 stand for a byte.
+#![tactic(auto)]
+
 ghost use Rattle.std.specs.Prelude.{◌≡◌, ◌<◌, ◌≤◌, length};
 ghost use Rattle.readings.specs.Lines.{hex_value, line_most, Written, Unwritten, Begun};
 
 use kinds::PATTERN_MOST;
-use libc::{STDIN_FILENO, STDOUT_FILENO};
 use program::PROGRAM_MOST;
 use reader::Reading;
 
@@ -65,38 +66,47 @@ fn unwritten(line: &[u8], pattern: &mut [u8]) -> usize
     n
 }
 
-fn print_reading(pattern: &[u8]) {
+// What can't be written is left out.
+fn say(output: &impl Print, words: &[u8]) {
+    let _ = output.write_all(words);
+}
+
+fn say_number(output: &impl Print, n: u64) {
+    let _ = output.print(n);
+}
+
+fn print_reading(output: &impl Print, pattern: &[u8]) {
     let mut program = [0u64; PROGRAM_MOST];
     match reader::read_pattern(pattern, &mut program) {
         Reading::Program(n) => {
-            io::write_all(STDOUT_FILENO, b"words ");
-            io::print_decimal(STDOUT_FILENO, n as u64);
+            say(output, b"words ");
+            say_number(output, n as u64);
         }
         Reading::Refused(refusal) => {
-            io::write_all(STDOUT_FILENO, b"refused ");
-            io::print_decimal(STDOUT_FILENO, kinds::number(refusal) as u64);
-            io::write_all(STDOUT_FILENO, b" at ");
-            io::print_decimal(STDOUT_FILENO, kinds::place(refusal) as u64);
+            say(output, b"refused ");
+            say_number(output, kinds::number(refusal) as u64);
+            say(output, b" at ");
+            say_number(output, kinds::place(refusal) as u64);
         }
     }
-    io::write_all(STDOUT_FILENO, b"\n");
+    say(output, b"\n");
 }
 
-fn print_line(line: &[u8])
+fn print_line(output: &impl Print, line: &[u8])
     requires { length line.now ≤ line_most }
 {
     let mut pattern = [0u8; LINE_MOST];
     let n = unwritten(line, &mut pattern);
-    print_reading(&pattern[..n]);
+    print_reading(output, &pattern[..n]);
 }
 
 // Adds a byte to the line that has n bytes, as far as there is room, or prints the line that it ends; how many bytes the line has then.
-fn add(line: &mut [u8], n: usize, byte: u8) -> usize
+fn add(output: &impl Print, line: &mut [u8], n: usize, byte: u8) -> usize
     requires { Begun line.old n }
     ensures { Begun line.new result }
 {
     if byte == b'\n' {
-        print_line(&line[..n]);
+        print_line(output, &line[..n]);
         return 0;
     }
     if n < line.len() {
@@ -107,31 +117,33 @@ fn add(line: &mut [u8], n: usize, byte: u8) -> usize
 }
 
 // Adds a piece of the input.
-fn add_all(line: &mut [u8], begun: usize, piece: &[u8]) -> usize
+fn add_all(output: &impl Print, line: &mut [u8], begun: usize, piece: &[u8]) -> usize
     requires { Begun line.old begun }
     ensures { Begun line.new result }
 {
     let mut n = begun;
     let mut i = 0;
     while i < piece.len() {
-        n = add(line, n, piece[i]);
+        n = add(output, line, n, piece[i]);
         i += 1;
     }
     n
 }
 
 // Nothing says that an input ends, so its pieces are counted down from a number that no run uses up.
-fn main() {
+fn main(rt: HostRuntime) {
+    let mut input = rt.reader();
+    let output = rt.stdout();
     let mut line = [0u8; LINE_MOST];
     let mut n = 0;
     let mut pieces = u64::MAX;
     while 0 < pieces {
         let mut piece = io::large_buffer();
-        let got = io::read_full(STDIN_FILENO, &mut piece);
+        let got = streams::read_most(&mut input, &mut piece);
         if got == 0 {
             return;
         }
-        n = add_all(&mut line, n, &piece[..got]);
+        n = add_all(&output, &mut line, n, &piece[..got]);
         pieces -= 1;
     }
 }

@@ -1,4 +1,6 @@
 // Reads two patterns from standard input, one a line, and says whether they are the same.
+#![tactic(auto)]
+
 ghost use Rattle.std.specs.Prelude.{◌≡◌, ◌≤◌, length, take};
 ghost use Rattle.io.specs.Counts.{IsPrefixLen};
 ghost use Rattle.findings.specs.Said.{comparison_most};
@@ -26,20 +28,26 @@ fn compared(input: &[u8], out: &mut [u8]) -> usize
 }
 
 // Says it on standard output.
-fn answer(input: &[u8]) {
+fn answer(output: &impl Print, error: &impl Print, input: &[u8]) {
     let mut out = [0u8; ROOM];
     let length = compared(input, &mut out);
-    streams::write_output(&out[..length], b"same: standard output can't be written\n");
+    streams::write_output(
+        output,
+        error,
+        &out[..length],
+        b"same: standard output can't be written\n",
+    );
 }
 
 // The first 2,051 bytes of the input decide, however long it is (`beginning-decides`).
-fn main() {
+fn main(rt: HostRuntime) {
     let mut input = [0u8; 2 * PATTERN_MOST + 3];
-    let read = streams::read_input(&mut input);
+    let read = streams::read_input(&rt, &mut input);
     match read {
-        Input::Bytes(n) => answer(&input[..n]),
+        Input::Bytes(n) => answer(&rt.stdout(), &rt.stderr(), &input[..n]),
         Input::Unread => {
             streams::say(
+                &rt.stderr(),
                 b"same: expected two patterns on standard input, one a line, and no argument\n",
             );
         }

@@ -1,7 +1,12 @@
 // What the programs are given and say: standard input, and no argument; standard output; and standard error where one of them fails.
+#![tactic(auto)]
+
+ghost use Rattle.io.specs.Counts.{IsPrefixLen};
 ghost use Rattle.streams.specs.Inputs.{InputIn};
 
-use libc::{STDERR_FILENO, STDIN_FILENO, STDOUT_FILENO};
+use std::env::FillError;
+use std::io::Read;
+use std::rt::Env;
 
 // What came of reading.
 #[derive(Drop)]
@@ -13,23 +18,22 @@ pub enum Input {
 }
 
 // One read: no bytes where the input ends.
-fn read_some(fd: i32, buffer: &mut [u8]) -> Input
+fn read_some<R: Read>(from: &mut R, buffer: &mut [u8]) -> Input
     ensures { InputIn result buffer.new }
 {
-    let got = libc::read(fd, buffer);
-    if got < 0 {
-        return Input::Unread;
+    match from.read(buffer) {
+        Ok(n) => Input::Bytes(n),
+        Err(_) => Input::Unread,
     }
-    Input::Bytes(io::count(got, buffer))
 }
 
 // Reads until the buffer is full, the input ends or a read fails.
-fn read_on(fd: i32, buffer: &mut [u8]) -> Input
+fn read_on<R: Read>(from: &mut R, buffer: &mut [u8]) -> Input
     ensures { InputIn result buffer.new }
 {
     let mut done: usize = 0;
     while done < buffer.len() {
-        let some = read_some(fd, &mut buffer[done..]);
+        let some = read_some(from, &mut buffer[done..]);
         match some {
             Input::Unread => {
                 return Input::Unread;
@@ -45,24 +49,54 @@ fn read_on(fd: i32, buffer: &mut [u8]) -> Input
     Input::Bytes(done)
 }
 
+// Whether there is an argument after the program's name. No byte of it is asked for, so an empty one alone fits.
+fn has_argument<R: Env>(rt: &R) -> bool {
+    match rt.arg(1, &mut []) {
+        Ok(_) => true,
+        Err(FillError::TooLong) => true,
+        Err(FillError::NotPresent) => false,
+    }
+}
+
 // Standard input, where the program has no argument.
-pub fn read_input(buffer: &mut [u8]) -> Input
+pub fn read_input<R: Env + std::io::Input>(rt: &R, buffer: &mut [u8]) -> Input
     ensures { InputIn result buffer.new }
 {
-    if 1 < os::arg_count() {
+    if has_argument(rt) {
         return Input::Unread;
     }
-    read_on(STDIN_FILENO, buffer)
+    read_on(&mut rt.reader(), buffer)
 }
 
-// A line for the user, on standard error.
-pub fn say(line: &[u8]) {
-    io::write_all(STDERR_FILENO, line);
+// As much of an input as the buffer holds, or as can be read; how many bytes stand at the start of the buffer.
+pub fn read_most<R: Read>(from: &mut R, buffer: &mut [u8]) -> usize
+    ensures { IsPrefixLen result buffer.new }
+{
+    let mut had: usize = 0;
+    while had < buffer.len() {
+        match read_some(from, &mut buffer[had..]) {
+            Input::Unread => {
+                return had;
+            }
+            Input::Bytes(n) => {
+                if n == 0 {
+                    return had;
+                }
+                had += n;
+            }
+        }
+    }
+    had
 }
 
-// Writes a text to standard output; where that fails, says the line.
-pub fn write_output(text: &[u8], unwritten: &[u8]) {
-    if !io::write_all(STDOUT_FILENO, text) {
-        say(unwritten);
+// A line for the user, on standard error; where that fails, there is nobody to tell.
+pub fn say(error: &impl Print, line: &[u8]) {
+    let _ = error.write_all(line);
+}
+
+// Writes a text to standard output; where that fails, says the line on standard error.
+pub fn write_output(output: &impl Print, error: &impl Print, text: &[u8], unwritten: &[u8]) {
+    if output.write_all(text).is_err() {
+        say(error, unwritten);
     }
 }

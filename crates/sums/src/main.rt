@@ -1,13 +1,14 @@
 // Works sums, one a line of standard input: how many rows are lent, a space, a pattern, and after a tab, where there is one, a text.
 // Each is printed with what the pattern's table is, row by row where it is small, or with its refusal; and with the first match and
 // all starts in the text.
+#![tactic(auto)]
+
 ghost use Rattle.std.specs.Prelude.{◌≡◌, ◌≤◌, length};
 ghost use Rattle.io.specs.Counts.{IsPrefixLen};
 ghost use Rattle.sums.specs.Lent.{Lent};
 
 use answers::{Compiled, First, Starts, Text};
 use kinds::{Refusal, Row, WORDS_A_ROW};
-use libc::{STDIN_FILENO, STDOUT_FILENO};
 
 // Rows for which there is room.
 const ROWS: usize = 1024;
@@ -15,19 +16,20 @@ const ROWS: usize = 1024;
 // Places for starts.
 const PLACES: usize = 16;
 
-fn say(words: &[u8]) {
-    io::write_all(STDOUT_FILENO, words);
+// What can't be written is left out.
+fn say(output: &impl Print, words: &[u8]) {
+    let _ = output.write_all(words);
 }
 
-fn say_number(n: u32) {
-    io::print_decimal(STDOUT_FILENO, n as u64);
+fn say_number(output: &impl Print, n: u32) {
+    let _ = output.print(n);
 }
 
-fn say_refusal(r: Refusal) {
-    say(b" refused ");
-    say_number(kinds::number(r));
-    say(b" at ");
-    say_number(kinds::place(r));
+fn say_refusal(output: &impl Print, r: Refusal) {
+    say(output, b" refused ");
+    say_number(output, kinds::number(r));
+    say(output, b" at ");
+    say_number(output, kinds::place(r));
 }
 
 // The place of the first byte c from `from` on, or the length.
@@ -62,78 +64,92 @@ fn number_of(digits: &[u8]) -> usize
     n
 }
 
-fn say_first(rows: u16, head: Row, cells: &[u16], marks: &[u8], text: &[u8]) {
+fn say_first(output: &impl Print, rows: u16, head: Row, cells: &[u16], marks: &[u8], text: &[u8]) {
     match first::first(rows, head, cells, marks, text) {
-        First::Refused(r) => say_refusal(r),
-        First::Nothing => say(b" no match"),
+        First::Refused(r) => say_refusal(output, r),
+        First::Nothing => say(output, b" no match"),
         First::Match(start, end) => {
-            say(b" first ");
-            say_number(start);
-            say(b" to ");
-            say_number(end);
+            say(output, b" first ");
+            say_number(output, start);
+            say(output, b" to ");
+            say_number(output, end);
         }
     }
 }
 
-fn say_list(list: &[u32], count: u32) {
+fn say_list(output: &impl Print, list: &[u32], count: u32) {
     let mut i: usize = 0;
     while i < list.len() {
         if i < count as usize {
-            say(b" ");
-            say_number(list[i]);
+            say(output, b" ");
+            say_number(output, list[i]);
         }
         i += 1;
     }
 }
 
-fn say_starts(rows: u16, head: Row, cells: &[u16], marks: &[u8], text: &[u8]) {
+fn say_starts(output: &impl Print, rows: u16, head: Row, cells: &[u16], marks: &[u8], text: &[u8]) {
     let mut list = [0u32; PLACES];
     match starts::starts(rows, head, cells, marks, text, &mut list) {
-        Starts::Refused(r) => say_refusal(r),
+        Starts::Refused(r) => say_refusal(output, r),
         Starts::Count(n) => {
-            say(b" starts");
-            say_list(&list, n);
+            say(output, b" starts");
+            say_list(output, &list, n);
         }
     }
 }
 
 // The listing of a table: all of a small one, of another its first line.
-fn say_table(rows: u16, head: Row, cells: &[u16], marks: &[u8]) {
+fn say_table(output: &impl Print, rows: u16, head: Row, cells: &[u16], marks: &[u8]) {
     let mut out = io::buffer();
     match listing::write_table(rows, head, cells, marks, &mut out) {
-        Text::Refused(r) => say_refusal(r),
+        Text::Refused(r) => say_refusal(output, r),
         Text::Written(n) => {
             let end = io::count(n as isize, &out);
-            say(&out[..end]);
+            say(output, &out[..end]);
         }
         Text::Longer(_) => {
             let end = find(&out, 0, b'\n');
-            say(&out[..end]);
-            say(b"\n");
+            say(output, &out[..end]);
+            say(output, b"\n");
         }
     }
 }
 
-fn say_matches(rows: u16, head: Row, cells: &[u16], marks: &[u8], text: &[u8]) {
-    say(text);
-    say(b":");
-    say_first(rows, head, cells, marks, text);
-    say_starts(rows, head, cells, marks, text);
-    say(b"\n");
+fn say_matches(
+    output: &impl Print,
+    rows: u16,
+    head: Row,
+    cells: &[u16],
+    marks: &[u8],
+    text: &[u8],
+) {
+    say(output, text);
+    say(output, b":");
+    say_first(output, rows, head, cells, marks, text);
+    say_starts(output, rows, head, cells, marks, text);
+    say(output, b"\n");
 }
 
 // The table of a pattern in the lent room, and what it matches in the text after a tab.
-fn work(pattern: &[u8], tabbed: &[u8], cells: &mut [u16], marks: &mut [u8], sets: &mut [u64]) {
+fn work(
+    output: &impl Print,
+    pattern: &[u8],
+    tabbed: &[u8],
+    cells: &mut [u16],
+    marks: &mut [u8],
+    sets: &mut [u64],
+) {
     match compile::compile(pattern, cells, marks, sets) {
         Compiled::Refused(r) => {
-            say_refusal(r);
-            say(b"\n");
+            say_refusal(output, r);
+            say(output, b"\n");
         }
         Compiled::Table(rows, head) => {
-            say(b" ");
-            say_table(rows, head, cells, marks);
+            say(output, b" ");
+            say_table(output, rows, head, cells, marks);
             if 0 < tabbed.len() {
-                say_matches(rows, head, cells, marks, &tabbed[1..]);
+                say_matches(output, rows, head, cells, marks, &tabbed[1..]);
             }
         }
     }
@@ -141,6 +157,7 @@ fn work(pattern: &[u8], tabbed: &[u8], cells: &mut [u16], marks: &mut [u8], sets
 
 // The same in room for so many rows.
 fn work_within(
+    output: &impl Print,
     room: usize,
     pattern: &[u8],
     tabbed: &[u8],
@@ -152,6 +169,7 @@ fn work_within(
     requires lent { Lent cells.old marks.old sets.old }
 {
     work(
+        output,
         pattern,
         tabbed,
         &mut cells[..256 * room],
@@ -161,19 +179,26 @@ fn work_within(
 }
 
 // One sum.
-fn work_line(line: &[u8], cells: &mut [u16], marks: &mut [u8], sets: &mut [u64])
+fn work_line(
+    output: &impl Print,
+    line: &[u8],
+    cells: &mut [u16],
+    marks: &mut [u8],
+    sets: &mut [u64],
+)
     requires { Lent cells.old marks.old sets.old }
 {
-    say(line);
-    say(b":");
+    say(output, line);
+    say(output, b":");
     let space = find(line, 0, b' ');
     if line.len() <= space {
-        say(b" no pattern\n");
+        say(output, b" no pattern\n");
         return;
     }
     let room = number_of(&line[..space]);
     let tab = find(line, space + 1, b'\t');
     work_within(
+        output,
         room,
         &line[space + 1..tab],
         &line[tab..],
@@ -183,13 +208,19 @@ fn work_line(line: &[u8], cells: &mut [u16], marks: &mut [u8], sets: &mut [u64])
     );
 }
 
-fn work_lines(text: &[u8], cells: &mut [u16], marks: &mut [u8], sets: &mut [u64])
+fn work_lines(
+    output: &impl Print,
+    text: &[u8],
+    cells: &mut [u16],
+    marks: &mut [u8],
+    sets: &mut [u64],
+)
     requires { Lent cells.old marks.old sets.old }
 {
     let mut at: usize = 0;
     while at < text.len() {
         let end = find(text, at, b'\n');
-        work_line(&text[at..end], cells, marks, sets);
+        work_line(output, &text[at..end], cells, marks, sets);
         at = end + 1;
     }
 }
@@ -213,11 +244,11 @@ fn sets_room() -> [u64; WORDS_A_ROW * ROWS]
     [0; WORDS_A_ROW * ROWS]
 }
 
-fn main() {
+fn main(rt: HostRuntime) {
     let mut text = io::large_buffer();
-    let n = io::read_full(STDIN_FILENO, &mut text);
+    let n = streams::read_most(&mut rt.reader(), &mut text);
     let mut cells = cells_room();
     let mut marks = marks_room();
     let mut sets = sets_room();
-    work_lines(&text[..n], &mut cells, &mut marks, &mut sets);
+    work_lines(&rt.stdout(), &text[..n], &mut cells, &mut marks, &mut sets);
 }

@@ -1,8 +1,6 @@
-use borrow.Author.Rules.{rules}
 use native.Mathlib.Omega.{arith}
 use Rattle.rules.specs.Nodes.{node_count}
 use Rattle.nodes.proofs.TreeLaws.{tree-built}
-use borrow.Enum.Refused.{opened}
 use Rattle.nodes.proofs.build.Goals as goal
 
 -- `build`: the fragment from node 0 on, and an end node without edges.

@@ -1,6 +1,6 @@
 //! `readings_cases CASES SEED` prints so many patterns, a line each, for the program `readings`; with `check` after it, it holds that
 //! program's answers to those of `paper`. In one line, here for 100,000 cases and seed 1:
-//! `readings_cases 100000 1 | target/bin/readings | readings_cases 100000 1 check`.
+//! `readings_cases 100000 1 | crates/readings/out/readings | readings_cases 100000 1 check`.
 use compare::readings::{check, line_of, tally};
 use compare::{patterns::pattern, Random};
 use std::io::{read_to_string, stdin, Write};

@@ -1,175 +1,244 @@
-use mathlib.Core.Path.{◌≡◌, refl, sym, ◌∙◌}
-use mathlib.Core.List.{List}
-use Prim.Native.Nat.{ℕ, suc, ◌+◌, ◌*◌, ◌-◌, ◌≤◌, ◌<◌}
-use borrow.Fn.Kind.{ParamKind}
-use borrow.Author.Rules.{rules}
+-- The builders: at each operation of the program, the fragment of the construction. A part's end falls at each call.
+use Rattle.std.proofs.Common.{◌≡◌, ◌+◌, ◌-◌, length, sym, ◌∙◌, arith}
 use borrow.Author.Tests.{eqb-true, eqb-false}
-use native.Mathlib.Omega.{arith}
-use lib.ListN.{length, get_or}
-use Rattle.rules.specs.Nodes.{frag}
-use Rattle.program.specs.Program.{program_most}
-use Rattle.spine.specs.Parts.{Part}
-use Rattle.spine.proofs.PartLaws.{nonempty, shaped, leaf-shaped}
-use Rattle.spine.proofs.SpineLaws.{Reached, reached}
-use Rattle.entries.specs.Entries.{Lists, lists}
-use Rattle.nodes.proofs.BuiltLaws.{empty-built, head-built, tail-built, bytes-built, around-built, rest_all}
-use Rattle.nodes.proofs.CopyLaws.{Copying, no_copies, plain_copy, extra-copy, copying-more, copying-last, copying-over, copying-full}
-use Rattle.nodes.specs.Fragments.{Fits}
-use Rattle.nodes.proofs.TurnLaws.{again, Stands, stands-bottom, turn-back, turn-within, turn-right, turn_last, turn-over, turn-full, turn_up, stands-all}
-use Rattle.nodes.proofs.fragment.+build_after_build_around_build_bottom_build_copies_build_copy_build_part_build_repeat.{statement}
 use borrow.Enum.Refused.{opened}
+use borrow.Rule.Slice.PartMut.{same_len_mid}
+use Rattle.rules.specs.Nodes.{frag}
+use Rattle.spine.proofs.PartLaws.{nonempty, shaped, leaf-shaped}
+use Rattle.entries.specs.Entries.{lists}
+use Rattle.nodes.proofs.BuiltLaws.{empty-built, head-built, tail-built, bytes-built, around-built}
+use Rattle.nodes.proofs.CopyLaws.{no_copies, plain_copy, extra-copy, copying-more, copying-last, copying-over, copying-full}
+use Rattle.nodes.proofs.TurnLaws.{again, lent, bottom, stands-bottom, turn, turn-over, turn-full, turn_up, stands-all}
 use Rattle.nodes.proofs.fragment.+building.Goals as goal
 
--- HELPERS
--- The builders: at each operation of the program, the fragment of the construction. A part's end falls at each call.
-abbrev μ-build-after : Measures 6 build-after-kinds.ps ℕ
-μ-build-after κs a = 7 * a.1.0 + 2
+-- build_after
+pub build_after-returns-in-To : goal.build_after-returns-in-To
+build_after-returns-in-To t c h =
+    let d = rw c.in-To.is at c.next.ensures in
+    let q : c.args.before.0 + 1 ≡ c.in-To.n.0 = omega arith in
+    rw q (c.build_part.ensures h)
 
-abbrev μ-build-around : Measures 6 build-around-kinds.ps ℕ
-μ-build-around κs a = 7 * a.1.0 + 3
+-- build_around
+pub build_around-returns-in-To-next : goal.build_around-returns-in-To-next
+build_around-returns-in-To-next t c h =
+    let f = rw c.in-To.is at (c.build_after.ensures h) in
+    let e = rw c.in-To-next.is at c.next.ensures in
+    let s = rw (c.empties.ensures, c.picked.ensures) at c.put.ensures in
+    let x = rw (c.empties-in-To-next.ensures, c.picked-in-To-next.ensures) at c.put-in-To-next.ensures in
+    around-built c.args.program.now c.args.skip c.args.back (frag h.tree) c.args.base.0 c.in-To.n.0 c.in-To-next.e.0
+    (lists c.args.kind.now c.args.to1.now c.args.to2.now c.args.atom.now)
+    (lists c.build_after.new.kind c.build_after.new.to1 c.build_after.new.to2 c.build_after.new.atom)
+    (lists c.put.new.kind c.put.new.to1 c.put.new.to2 c.put.new.atom)
+    (lists c.put-in-To-next.new.kind c.put-in-To-next.new.to1 c.put-in-To-next.new.to2 c.put-in-To-next.new.atom)
+    f e.0 e.1 s x
 
-abbrev μ-build-bottom : Measures 6 build-bottom-kinds.ps ℕ
-μ-build-bottom κs a = 7 * a.1.0
+-- build_bottom
+pub build_bottom-overflow_sub-i : goal.build_bottom-overflow_sub-i
+build_bottom-overflow_sub-i t c = nonempty c.requires.2.part
 
-abbrev μ-build-copies : Measures 6 build-copies-kinds.ps ℕ
-μ-build-copies κs a = 7 * a.1.0 + 5
+pub build_bottom-bounds-program-i : goal.build_bottom-bounds-program-i
+build_bottom-bounds-program-i t c = omega (arith, c.requires.2.within, nonempty c.requires.2.part)
 
-abbrev μ-build-copy : Measures 6 build-copy-kinds.ps ℕ
-μ-build-copy κs a = 7 * a.1.0 + 4
+pub build_bottom-build_repeat-requires : goal.build_bottom-build_repeat-requires
+build_bottom-build_repeat-requires t c =
+    let r = c.requires.2 in
+    let v = shaped _ _ r.within (sym c.operation.ensures ∙ c.in-Repeated.is) r.part in
+    (omega (arith, c.decreases, nonempty r.part), (omega (arith, c.requires.1), again r (omega arith) v.part r.low r.room))
 
-abbrev μ-build-part : Measures 6 build-part-kinds.ps ℕ
-μ-build-part κs a = 7 * a.1.0 + 1
+pub build_bottom-returns-in-Nothing : goal.build_bottom-returns-in-Nothing
+build_bottom-returns-in-Nothing t c h =
+    rw (shaped _ _ c.requires.2.within (sym c.operation.ensures ∙ c.in-Nothing.is) h) (empty-built _ _ _ _ c.link.result c.link.ensures)
 
-abbrev μ-build-repeat : Measures 6 build-repeat-kinds.ps ℕ
-μ-build-repeat κs a = 7 * a.1.0 + 6
+pub build_bottom-returns-in-Head : goal.build_bottom-returns-in-Head
+build_bottom-returns-in-Head t c h =
+    rw (shaped _ _ c.requires.2.within (sym c.operation.ensures ∙ c.in-Head.is) h) (head-built _ _ _ _ c.link-in-Head.result c.link-in-Head.ensures)
 
--- a member at its own measure t, and one that it may call
-abbrev at : (ps : List (ParamKind 6)) → Measures 6 ps ℕ → In 6 ps → ℕ → In 6 ps
-at ps μ pre t = and 6 ps (is 6 ps μ t) pre
+pub build_bottom-returns-in-Tail : goal.build_bottom-returns-in-Tail
+build_bottom-returns-in-Tail t c h =
+    rw (shaped _ _ c.requires.2.within (sym c.operation.ensures ∙ c.in-Tail.is) h) (tail-built _ _ _ _ c.link-in-Tail.result c.link-in-Tail.ensures)
 
-abbrev below : (ps : List (ParamKind 6)) → Measures 6 ps ℕ → In 6 ps → ℕ → In 6 ps
-below ps μ pre t = and 6 ps (falls 6 ps ◌<◌ μ t) pre
+pub build_bottom-returns-in-Repeated : goal.build_bottom-returns-in-Repeated
+build_bottom-returns-in-Repeated t c h =
+    let v = shaped _ _ c.requires.2.within (sym c.operation.ensures ∙ c.in-Repeated.is) h in
+    rw v.is (c.build_repeat.ensures v.part)
 
-abbrev build-after-below : ℕ → In 6 build-after-kinds.ps
-build-after-below = below build-after-kinds.ps μ-build-after build-after.Pre
+pub build_bottom-returns-in_default : goal.build_bottom-returns-in_default
+build_bottom-returns-in_default t c h =
+    let k = c.requires in
+    let v = leaf-shaped _ _ c.operation.result k.2.within (sym c.operation.ensures) (opened c.in_default.in_default-own.keys5) (rw c.operation.ensures k.0) h in
+    rw v.is (bytes-built _ _ _ _ c.link-in_default.result _ v.atom c.link-in_default.ensures)
 
-abbrev build-around-below : ℕ → In 6 build-around-kinds.ps
-build-around-below = below build-around-kinds.ps μ-build-around build-around.Pre
+-- build_copies
+pub build_copies-returns-then-none : goal.build_copies-returns-then-none
+build_copies-returns-then-none t c h =
+    let k = c.args.copies in
+    let q = eqb-true (k.plain + k.extra) 0 (sym c.none.ensures ∙ c.if-none.true) in
+    rw (no_copies k.plain k.extra c.args.back (frag h.tree) q) (empty-built _ _ _ _ c.link.result c.link.ensures)
 
-abbrev build-bottom-below : ℕ → In 6 build-bottom-kinds.ps
-build-bottom-below = below build-bottom-kinds.ps μ-build-bottom build-bottom.Pre
+pub build_copies-link-requires-in-To : goal.build_copies-link-requires-in-To
+build_copies-link-requires-in-To t c = let f = rw c.in-To.is at (c.build_copy.ensures c.requires.1.part) in (f.low, f.room)
 
-abbrev build-copies-below : ℕ → In 6 build-copies-kinds.ps
-build-copies-below = below build-copies-kinds.ps μ-build-copies build-copies.Pre
+pub build_copies-copies-preserved : goal.build_copies-copies-preserved
+build_copies-copies-preserved t c =
+    let r = c.rest-left.result in
+    let q = eqb-false (r.plain + r.extra) 0 (sym c.none-in-To.ensures ∙ c.if-none-2.false) in
+    let w = c.copies.invariant in (
+      c.build_copy.auto.spine ∙ w.0,
+      copying-more w.1 c.rest-left.ensures (λ h. rw c.in-To.is at (c.build_copy.ensures h)) (omega arith) (rw c.in-To-link.is at c.link-in-To.ensures),
+    )
 
-abbrev build-copy-below : ℕ → In 6 build-copy-kinds.ps
-build-copy-below = below build-copy-kinds.ps μ-build-copy build-copy.Pre
+pub build_copies-returns-in-TooMany : goal.build_copies-returns-in-TooMany
+build_copies-returns-in-TooMany t c h = copying-over c.copies.invariant.1 h (rw c.in-TooMany.is at (c.build_copy.ensures h))
 
-abbrev build-part-below : ℕ → In 6 build-part-kinds.ps
-build-part-below = below build-part-kinds.ps μ-build-part build-part.Pre
+pub build_copies-returns-then-none-2 : goal.build_copies-returns-then-none-2
+build_copies-returns-then-none-2 t c =
+    let r = c.rest-left.result in
+    let q = eqb-true (r.plain + r.extra) 0 (sym c.none-in-To.ensures ∙ c.if-none-2.true) in
+    copying-last c.copies.invariant.1 c.rest-left.ensures (λ h. rw c.in-To.is at (c.build_copy.ensures h)) q
 
-abbrev build-repeat-below : ℕ → In 6 build-repeat-kinds.ps
-build-repeat-below = below build-repeat-kinds.ps μ-build-repeat build-repeat.Pre
+pub build_copies-returns-in-TooMany-link : goal.build_copies-returns-in-TooMany-link
+build_copies-returns-in-TooMany-link t c h =
+    let r = c.rest-left.result in
+    let q = eqb-false (r.plain + r.extra) 0 (sym c.none-in-To.ensures ∙ c.if-none-2.false) in
+    let f = rw c.in-To.is at (c.build_copy.ensures h) in
+    let m = rw c.in-TooMany-link.is at c.link-in-To.ensures in
+    copying-full c.copies.invariant.1 c.rest-left.ensures h f (omega arith) m
 
-abbrev build-copies-Inv-copies : build-copies-lts.invariant-copies
-build-copies-Inv-copies program end back spine₀ kind₀ to1₀ to2₀ atom₀ left₀ at₀ spine kind to1 to2 atom left at =
-    (length spine ≡ length spine₀) × Copying program end back left₀ left at₀.0 at.0 (lists kind₀ to1₀ to2₀ atom₀) (lists kind to1 to2 atom)
+-- build_copy
+pub build_copy-returns-then-copies-gt0 : goal.build_copy-returns-then-copies-gt0
+build_copy-returns-then-copies-gt0 t c h = rw (plain_copy c.args.copies.plain c.args.back (frag h.tree) (omega arith)) (c.build_part.ensures h)
 
-abbrev build-copies-μ-copies : build-copies-lts.decreases-copies
-build-copies-μ-copies program end back spine₀ kind₀ to1₀ to2₀ atom₀ left₀ at₀ spine kind to1 to2 atom left at = left.plain + left.extra
+pub build_copy-returns : goal.build_copy-returns
+build_copy-returns t c h = rw (extra-copy c.args.copies.plain c.args.back (frag h.tree) (omega arith)) (c.build_around.ensures h)
 
--- where a part from b on was begun in the lists `old`, what stands before a turn stands after it
-abbrev build-part-Inv-up : build-part-lts.invariant-up
-build-part-Inv-up program end spine₀ kind₀ to1₀ to2₀ atom₀ start₀ up₀ last₀ spine kind to1 to2 atom start up last =
-    (length spine ≡ length spine₀)
-    × ((b : ℕ) (old : Lists) → Stands program end b old spine₀ up₀ start₀.0 (lists kind₀ to1₀ to2₀ atom₀) last₀.0
-    → Stands program end b old spine up start.0 (lists kind to1 to2 atom) last.0)
+-- build_part
+pub build_part-returns-then-start-ge-NODES_MOST : goal.build_part-returns-then-start-ge-NODES_MOST
+build_part-returns-then-start-ge-NODES_MOST t c h =
+    let R = bottom c.descend-bottom.new.spine _ _ _ c.requires.1 c.descend-bottom.ensures.0 h in
+    omega (arith, R.deep)
 
-abbrev build-part-μ-up : build-part-lts.decreases-up
-build-part-μ-up program end spine₀ kind₀ to1₀ to2₀ atom₀ start₀ up₀ last₀ spine kind to1 to2 atom start up last = up
+pub build_part-offset_bounds-spine-up : goal.build_part-offset_bounds-spine-up
+build_part-offset_bounds-spine-up t c =
+    let R = bottom c.descend-bottom.new.spine _ _ _ c.requires.1 c.descend-bottom.ensures.0 c.requires.1.part in
+    omega (arith, R.room, c.requires.1.short)
 
-abbrev part-calls : ℕ → build-part-lts.Claims
-part-calls t = (
-  descend-reads.Asked,
-  descend-reads.Learnt,
-  build-bottom-below t,
-  build-bottom.Post,
-  build-after-below t,
-  build-after.Post,
-  operation-reads.Asked,
-  operation-reads.Learnt,
-  start-of-reads.Asked,
-  start-of-reads.Learnt,
-  combine-reads.Asked,
-  combine-reads.Learnt,
-)
+pub build_part-slice_bounds-build_bottom-count : goal.build_part-slice_bounds-build_bottom-count
+build_part-slice_bounds-build_bottom-count t c =
+    let R = bottom c.descend-bottom.new.spine _ _ _ c.requires.1 c.descend-bottom.ensures.0 c.requires.1.part in
+    omega (arith, R.room, c.descend-bottom.auto.spine)
 
-abbrev part_at : ℕ → In 6 build-part-kinds.ps
-part_at = at build-part-kinds.ps μ-build-part build-part.Pre
+pub build_part-slice_bounds-build_bottom-start : goal.build_part-slice_bounds-build_bottom-start
+build_part-slice_bounds-build_bottom-start t c =
+    let R = bottom c.descend-bottom.new.spine _ _ _ c.requires.1 c.descend-bottom.ensures.0 c.requires.1.part in
+    omega (arith, R.room, c.descend-bottom.auto.spine)
 
--- In `build_part`: after the way down; where a turn of the way up begins; in one that has an operation to build; where its right part is built.
-abbrev Descended : ℕ → Type 0
-Descended t = build-part-lts.After-descend (part-calls t) (part_at t) build-part.Post build-part-Inv-up build-part-μ-up
+pub build_part-build_bottom-requires : goal.build_part-build_bottom-requires
+build_part-build_bottom-requires t c =
+    let k = c.requires.1 in
+    let R = bottom c.descend-bottom.new.spine _ _ _ k c.descend-bottom.ensures.0 k.part in (
+      omega (arith, c.decreases, R.room),
+      (
+        c.descend-bottom.ensures.1,
+        lent c.descend-bottom.result.passed _ c.descend-bottom.new.spine (omega (arith, R.room, c.descend-bottom.auto.spine)),
+        again k (omega (arith, R.room)) R.part (omega (arith, c.if-start-ge-NODES_MOST.false)) k.room,
+      ),
+    )
 
-abbrev Up : ℕ → Type 0
-Up t = build-part-lts.At-up (part-calls t) (part_at t) build-part.Post build-part-Inv-up build-part-μ-up
+pub build_part-returns-in-TooMany : goal.build_part-returns-in-TooMany
+build_part-returns-in-TooMany t c h =
+    let R = bottom c.descend-bottom.new.spine _ _ _ c.requires.1 c.descend-bottom.ensures.0 h in
+    omega (arith, rw c.in-TooMany.is at (c.build_bottom.ensures R.part), R.deep)
 
-abbrev Turn : ℕ → Type 0
-Turn t = build-part-lts.Else2 (part-calls t) (part_at t) build-part.Post build-part-Inv-up build-part-μ-up
+pub build_part-up-init : goal.build_part-up-init
+build_part-up-init t c =
+    let s = c.descend-bottom.new.spine in
+    let k = c.descend-bottom.result.passed in
+    let R = bottom s _ _ _ c.requires.1 c.descend-bottom.ensures.0 c.requires.1.part in (
+      same_len_mid k (length s - k) s c.build_bottom.new.spine c.build_bottom.auto.spine ∙ c.descend-bottom.auto.spine,
+      stands-bottom s c.build_bottom.new.spine (length s - k) (omega (arith, R.room, c.descend-bottom.auto.spine)) c.descend-bottom.ensures.0
+          (λ h. rw c.in-To.is at (c.build_bottom.ensures h)),
+    )
 
-abbrev Right : ℕ → Type 0
-Right t = build-part-lts.After-y-end (part-calls t) (part_at t) build-part.Post build-part-Inv-up build-part-μ-up
+pub build_part-offset_bounds-spine-up-in-up : goal.build_part-offset_bounds-spine-up-in-up
+build_part-offset_bounds-spine-up-in-up t c = let T = turn c.requires.1 c.if-up-eq0.false c.up.invariant.1 in omega (arith, T.room, T.short)
 
-abbrev begun : (t : ℕ) → Up t → build-part-lts.Start (part-calls t) (part_at t) build-part.Post build-part-Inv-up build-part-μ-up
-begun t c = c.before.before.before.before.before.before.before.before.before.before.before.before.before.before.before.before.before.before.before.before.before
+pub build_part-bounds-spine-up : goal.build_part-bounds-spine-up
+build_part-bounds-spine-up t c = let T = turn c.requires.1 c.if-up-eq0.false c.up.invariant.1 in omega (arith, T.room, c.up.invariant.0, c.requires.0)
 
-abbrev descended : (t : ℕ) → Up t → Descended t
-descended t c = c.before.before.before.before.before.before.before.before.before.before.before.before.before.before.before.before.before
+pub build_part-offset_bounds-spine-up-in-up-2 : goal.build_part-offset_bounds-spine-up-in-up-2
+build_part-offset_bounds-spine-up-in-up-2 t c = let T = turn c.requires.1 c.if-up-eq0.false c.up.invariant.1 in omega (arith, T.room, T.short)
 
-abbrev turn : (t : ℕ) → Right t → Turn t
-turn t c = c.before.before.before.before.before.before.before.before.before.before.before
+pub build_part-slice_bounds-build_after-count : goal.build_part-slice_bounds-build_after-count
+build_part-slice_bounds-build_after-count t c =
+    let T = turn c.requires.1 c.if-up-eq0.false c.up.invariant.1 in
+    omega (arith, T.room, c.up.invariant.0, c.requires.0)
 
--- the part at the bottom
-bottom : (t : ℕ) (c : Descended t) → let A = c.before.before.before.before.args in let r = c.descend.result in (h : Part A.program.now A.end)
-    → Reached A.program.now r.passed A.end A.base.0 r.end r.start.0 h
-bottom t c = let S = c.before.before.before.before in let r = c.descend.result in
-    reached S.args.program.now c.descend.new.1.1.0 r.passed S.args.end S.args.base.0 r.end r.start.0 S.requires.1.1.within c.descend.ensures.0
+pub build_part-slice_bounds-build_after-start : goal.build_part-slice_bounds-build_after-start
+build_part-slice_bounds-build_after-start t c =
+    let T = turn c.requires.1 c.if-up-eq0.false c.up.invariant.1 in
+    omega (arith, T.room, c.up.invariant.0, c.requires.0)
 
--- the spine has room for it
-fits : (t : ℕ) (c : Descended t) → let r = c.descend.result in (r.end + r.passed ≤ length c.descend.new.1.1.0) × (r.passed ≤ program_most)
-fits t c =
-    let S = c.before.before.before.before in
-    let R = bottom t c S.requires.1.1.part in
-    (omega (arith, R.room, S.requires.1.0, c.descend.auto.1.1.0), omega (arith, R.room, S.requires.1.1.short))
+pub build_part-build_after-requires : goal.build_part-build_after-requires
+build_part-build_after-requires t c =
+    let T = turn c.requires.1 c.if-up-eq0.false c.up.invariant.1 in (
+      omega (arith, c.decreases, T.room),
+      (
+        lent (c.up.up - 1) _ c.up.spine (omega (arith, T.room, c.up.invariant.0, c.requires.0)),
+        again c.requires.1 (omega (arith, T.room)) T.right T.low T.free,
+      ),
+    )
 
--- the spine keeps its length
-long : (t : ℕ) (c : Up t) → length c.up.spine ≡ length (begun t c).args.spine.now
-long t c = c.up.invariant.0 ∙ c.before.before.before.before.before.spine2.given.1 ∙ (descended t c).descend.auto.1.1.0
+pub build_part-bounds-program-i : goal.build_part-bounds-program-i
+build_part-bounds-program-i t c = let T = turn c.requires.1 c.if-up-eq0.false c.up.invariant.1 in omega (arith, T.room, T.within)
 
--- what stands before a turn
-standing : (t : ℕ) (c : Up t) → let A = (begun t c).args in
-    Stands A.program.now A.end A.base.0 (lists A.kind.now A.to1.now A.to2.now A.atom.now)
-    c.up.spine c.up.up c.up.start.0 (lists c.up.kind c.up.to1 c.up.to2 c.up.atom) c.up.new.0
-standing t c =
-    let D = descended t c in
-    let B = c.before.before.before.before.before.before in
-    let s = D.descend.last.1.1.0 in
-    c.up.invariant.1 _ _ (stands-bottom s B.build-bottom.new.1.1.0 (length s - D.descend.result.passed)
-    (omega (arith, fits t D)) D.descend.ensures.0 (λ h. rw c.before.before.n.given.1 at (B.build-bottom.ensures h)))
+pub build_part-start_of-start-requires : goal.build_part-start_of-start-requires
+build_part-start_of-start-requires t c = rw c.operation-op.ensures (turn c.requires.1 c.if-up-eq0.false c.up.invariant.1).back
 
--- where the next operation stands, and that there is room
-ahead : (t : ℕ) (c : Turn t) → let U = c.before.up in let A = (begun t c.before).args in
-    (1 ≤ U.up) × (suc (get_or U.spine (U.up - 1) 0) + (U.up - 1) ≤ A.end) × (A.end ≤ length U.spine) × (A.end ≤ length A.program.now) × (A.end ≤ program_most)
-ahead t c =
-    let S = begun t c.before in
-    let k = S.pre.1.1 in
-    let v : 1 ≤ c.before.up.up = omega (arith, c.if2.false) in
-    (v, turn-within k.within v (standing t c.before) k.part, omega (arith, long t c.before, S.pre.1.0), k.within, k.short)
+pub build_part-combine-requires : goal.build_part-combine-requires
+build_part-combine-requires t c =
+    let T = turn c.requires.1 c.if-up-eq0.false c.up.invariant.1 in
+    let f = rw c.in-To-build_after.is at (c.build_after.ensures T.right) in
+    (omega (arith, c.start_of-start.ensures, T.order, T.low), T.low, f.low, f.room)
 
--- the right part
-right : (t : ℕ) (c : Right t) → let U = (turn t c).before.up in let l = c.before.before.before.before.build-after.new.1.1.1 in
-    let p = (begun t (turn t c).before).args.program.now in (h : Part p (get_or U.spine (U.up - 1) 0))
-    → Fits p (frag h.tree) (U.last.0 + 1) (lists U.kind U.to1 U.to2 U.atom) (lists l.0 l.1.0 l.1.1.0 l.1.1.1.0) c.y-end.given.0.0.0
-right t c h = rw c.y-end.given.1 at (c.before.before.before.before.build-after.ensures h)
+pub build_part-up-preserved : goal.build_part-up-preserved
+build_part-up-preserved t c =
+    let T = turn c.requires.1 c.if-up-eq0.false c.up.invariant.1 in
+    let o = c.operation-op.ensures in
+    let s = c.up.spine in
+    let u = c.up.up - 1 in (
+      same_len_mid u (length s - u) s c.build_after.new.spine c.build_after.auto.spine ∙ c.up.invariant.0,
+      turn_up T.within T.some c.up.invariant.1 _ _ _ (rw o at c.start_of-start.ensures) (λ h. rw c.in-To-build_after.is at (c.build_after.ensures h))
+          c.requires.1.part _ _ c.build_after.new.spine (length s - u)
+          (omega (arith, T.room, c.up.invariant.0, c.requires.0)) (rw (c.in-To-combine.is, o) at c.combine.ensures),
+    )
 
+pub build_part-returns-then-up-eq0 : goal.build_part-returns-then-up-eq0
+build_part-returns-then-up-eq0 t c = stands-all c.if-up-eq0.true c.up.invariant.1
 
+pub build_part-returns-in-TooMany-build_after : goal.build_part-returns-in-TooMany-build_after
+build_part-returns-in-TooMany-build_after t c =
+    let T = turn c.requires.1 c.if-up-eq0.false c.up.invariant.1 in
+    turn-over T.within T.some c.up.invariant.1 (λ h. rw c.in-TooMany-build_after.is at (c.build_after.ensures h))
+
+pub build_part-returns-in-TooMany-combine : goal.build_part-returns-in-TooMany-combine
+build_part-returns-in-TooMany-combine t c h =
+    let T = turn c.requires.1 c.if-up-eq0.false c.up.invariant.1 in
+    let o = c.operation-op.ensures in
+    turn-full T.within T.some c.up.invariant.1 _ _ _ (rw o at c.start_of-start.ensures)
+    (λ d. rw c.in-To-build_after.is at (c.build_after.ensures d)) h (rw (c.in-TooMany-combine.is, o) at c.combine.ensures)
+
+-- build_repeat
+pub build_repeat-returns-in-Star : goal.build_repeat-returns-in-Star
+build_repeat-returns-in-Star t c h = rw c.in-Star.is (c.build_around.ensures h)
+
+pub build_repeat-returns-in-Plus : goal.build_repeat-returns-in-Plus
+build_repeat-returns-in-Plus t c h = rw c.in-Plus.is (c.build_around-in-Plus.ensures h)
+
+pub build_repeat-returns-in-Maybe : goal.build_repeat-returns-in-Maybe
+build_repeat-returns-in-Maybe t c h = rw c.in-Maybe.is (c.build_around-in-Maybe.ensures h)
+
+pub build_repeat-returns-in-Times : goal.build_repeat-returns-in-Times
+build_repeat-returns-in-Times t c h = rw c.in-Times.is (c.build_copies.ensures h)
+
+pub build_repeat-returns-in-AtLeast : goal.build_repeat-returns-in-AtLeast
+build_repeat-returns-in-AtLeast t c h = rw c.in-AtLeast.is (c.build_copies-in-AtLeast.ensures h)

@@ -1,4 +1,3 @@
-use borrow.Author.Rules.{rules}
 use native.Mathlib.Nat.{add-zero}
 use Rattle.spine.proofs.SpineLaws.{no_row}
 use Rattle.nodes.proofs.BuiltLaws.{joined-built}

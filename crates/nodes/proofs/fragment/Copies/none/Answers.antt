@@ -3,7 +3,6 @@ use Prim.Native.Nat.{◌+◌}
 use native.Mathlib.Nat.{zero-add}
 use native.Mathlib.Omega.{arith}
 use borrow.Author.Tests.{ne_eqb}
-use borrow.Enum.Refused.{opened}
 use Rattle.nodes.proofs.fragment.Copies.none.Goals as goal
 
 pub returns-then-self-gt0 : goal.returns-then-self-gt0

@@ -1,7 +1,5 @@
-use borrow.Author.Rules.{rules}
 use native.Mathlib.Omega.{arith}
 use Rattle.nodes.proofs.CopyLaws.{fewer-plain, fewer-extra}
-use borrow.Enum.Refused.{opened}
 use Rattle.nodes.proofs.fragment.Copies.rest.Goals as goal
 
 pub returns-then-self-gt0 : goal.returns-then-self-gt0
