@@ -3,7 +3,7 @@
 
 use kinds::{Refusal, Row};
 
-#[derive(Drop)]
+#[derive(Clone, Copy)]
 pub enum Compiled {
     // The number of rows and the head row.
     Table(u16, Row),

@@ -1,4 +1,6 @@
 // A table as a graph for Graphviz: rows as circles, runs of bytes on the arrows.
+#![tactic(auto)]
+
 ghost use Rattle.std.specs.Prelude.{◌≡◌, [], ◌∷◌, ◌++◌, map, ℕ, ◌+◌, ◌*◌, ◌/◌, ◌%◌, ◌<◌, length, get_or};
 ghost use Rattle.rules.specs.Tools.{up_from, flat};
 ghost use Rattle.rules.specs.Listing.{decimal, runs};

@@ -1,4 +1,6 @@
 // Single nodes: the one after a node, and what is written at it.
+#![tactic(auto)]
+
 ghost use Rattle.std.specs.Prelude.{◌<◌};
 ghost use Rattle.rules.specs.Sizes.{nodes_most};
 ghost use Rattle.entries.specs.Entries.{lists, Room, Puts, NextOf, Links};

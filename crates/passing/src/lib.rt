@@ -1,4 +1,6 @@
 // First, in one pass over the text with a list of rows, each with the least start that has led to it.
+#![tactic(auto)]
+
 ghost use Rattle.std.specs.Prelude.{◌≡◌, ◌+◌, ◌≤◌, ◌<◌, length};
 ghost use Rattle.rules.specs.Sizes.{rows_most};
 ghost use Rattle.ahead.specs.Ahead.{lent, Ready};

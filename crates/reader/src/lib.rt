@@ -1,4 +1,6 @@
 // Reading a pattern: its tree as a program, or refusal 1 to 9 with its place.
+#![tactic(auto)]
+
 ghost use Rattle.reader.specs.Reading.{ProgramRoom, ReadAs};
 
 mod tree;

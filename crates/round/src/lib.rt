@@ -1,5 +1,7 @@
 // Rows sorted into groups in a round: rows of one class that go to classes of the same keys are one group. Groups hang in buckets by a
 // number mixed from the keys, so that a row is compared only with the first rows of its bucket's groups.
+#![tactic(auto)]
+
 ghost use Rattle.std.specs.Prelude.{◌≡◌, ◌+◌, ◌*◌, ◌≤◌, ◌<◌, length, set};
 ghost use Rattle.mixing.specs.Mixing.{buckets};
 ghost use Rattle.keys.specs.Keys.{Given, Idle, bucket_of};

@@ -1,4 +1,3 @@
-use borrow.Author.Rules.{rules}
 use mathlib.Core.Path.{◌≡◌, sym, ap, ◌∙◌}
 use Prim.Native.Nat.{ℕ, ◌+◌, ◌*◌, ◌-◌}
 use native.Mathlib.Omega.{arith}
@@ -9,7 +8,6 @@ use Rattle.rules.specs.Table.{Table}
 use Rattle.table.specs.Lent.{table_of}
 use Rattle.dot.proofs.DotLaws.{no-trap-inside, no-trap-head, no-trap-match, trap-by-cells}
 use Rattle.writing.proofs.RowLaws.{part_slice}
-use borrow.Enum.Refused.{opened}
 use Rattle.dot.proofs.is_trap.Goals as goal
 use Rattle.dot.proofs.is_trap.Goals.{Start}
 

@@ -1,4 +1,3 @@
-use borrow.Author.Rules.{rules}
 use mathlib.Core.Path.{◌≡◌, ap}
 use mathlib.Core.List.{[], ◌∷◌}
 use native.Mathlib.Omega.{arith}
@@ -6,7 +5,6 @@ use lib.ListN.{length}
 use Rattle.writing.proofs.Writings.{join}
 use Rattle.dot.specs.Dot.{byte_text}
 use Rattle.dot.proofs.DotLaws.{byte-digits, byte-behind, byte-itself}
-use borrow.Enum.Refused.{opened}
 use Rattle.dot.proofs.put_byte.Goals as goal
 use Rattle.dot.proofs.put_byte.Goals.{Then-b-2}
 

@@ -1,4 +1,3 @@
-use borrow.Author.Rules.{rules}
 use mathlib.Core.Path.{◌≡◌, ap}
 use mathlib.Core.List.{◌++◌}
 use native.Mathlib.Omega.{arith}
@@ -7,7 +6,6 @@ use Rattle.rules.specs.Tools.{bytes_of}
 use Rattle.writing.proofs.Writings.{join}
 use Rattle.dot.specs.Dot.{byte_text, bytes_text}
 use Rattle.dot.proofs.DotLaws.{bytes_one, bytes-more}
-use borrow.Enum.Refused.{opened}
 use Rattle.dot.proofs.put_bytes.Goals as goal
 use Rattle.dot.proofs.put_bytes.Goals.{Else-lo-hi}
 

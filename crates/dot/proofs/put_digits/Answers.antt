@@ -1,6 +1,4 @@
-use borrow.Author.Rules.{rules}
 use Rattle.writing.proofs.Writings.{join}
-use borrow.Enum.Refused.{opened}
 use Rattle.dot.proofs.put_digits.Goals as goal
 
 -- `put_digits`

@@ -1,9 +1,7 @@
-use borrow.Author.Rules.{rules}
 use native.Mathlib.Omega.{arith}
 use lib.ListN.{length-append}
 use Rattle.writing.proofs.Writings.{join}
 use Rattle.dot.specs.Dot.{dot}
-use borrow.Enum.Refused.{opened}
 use Rattle.dot.proofs.put_dot.Goals as goal
 
 -- `put_dot`
@@ -18,9 +16,9 @@ put_all-here-requires-2 c = omega (arith, simp length-append at c.requires.room)
 pub put_rows-here-requires : goal.put_rows-here-requires
 unfolding dot
 put_rows-here-requires c = record {
-      formed = c.requires.formed;
-      room = omega (arith, simp length-append at c.requires.room);
-    }
+  formed = c.requires.formed;
+  room = omega (arith, simp length-append at c.requires.room);
+}
 
 pub put_all-requires : goal.put_all-requires
 unfolding dot

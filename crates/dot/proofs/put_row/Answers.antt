@@ -1,4 +1,3 @@
-use borrow.Author.Rules.{rules}
 use mathlib.Core.Path.{◌≡◌, sym, ◌∙◌}
 use native.Mathlib.Omega.{arith}
 use lib.ListN.{length-append}
@@ -9,7 +8,6 @@ use Rattle.writing.proofs.Writings.{nothing, join}
 use Rattle.writing.proofs.RowLaws.{part_length, part_at}
 use Rattle.dot.specs.Dot.{row_dot}
 use Rattle.dot.proofs.DotLaws.{row-none, row_text, row_one}
-use borrow.Enum.Refused.{opened}
 use Rattle.dot.proofs.put_row.Goals as goal
 use Rattle.dot.proofs.put_row.Goals.{Else-is_trap, Start}
 
@@ -37,10 +35,10 @@ put_shape-here-requires c = omega (arith, simp length-append at (room (goal.at.p
 
 pub put_ways-requires : goal.put_ways-requires
 put_ways-requires c = record {
-      row_len = part_length c.args.q.0 c.args.cells.now (omega (arith, c.requires.lent));
-      by_index = λ i h. rw part_at (c.requires.by_index i h);
-      room = omega (arith, simp length-append at (room (goal.at.put_ways-requires c).Else-is_trap));
-    }
+  row_len = part_length c.args.q.0 c.args.cells.now (omega (arith, c.requires.lent));
+  by_index = λ i h. rw part_at (c.requires.by_index i h);
+  room = omega (arith, simp length-append at (room (goal.at.put_ways-requires c).Else-is_trap));
+}
 
 pub returns : goal.returns
 returns c = rw (drawn (goal.at.returns c).Else-is_trap) (join (join c.put_number-here.ensures c.put_shape-here.ensures) c.put_ways.ensures)

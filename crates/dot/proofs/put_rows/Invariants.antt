@@ -1,11 +1,7 @@
-use borrow.Author.Rules.{rules}
 use Prim.Native.Nat.{◌-◌}
 use Rattle.table.specs.Lent.{table_of}
 use Rattle.dot.specs.Dot.{row_dot}
-use Rattle.writing.proofs.Writings.{left-length}
-use Rattle.writing.proofs.RowLaws.{RowsLeft, rows-begin, rows-over, row_room, row_written}
-use Rattle.dot.proofs.DotLaws.{row_of, lent, lent-after}
-use borrow.Enum.Refused.{opened}
+use Rattle.writing.proofs.RowLaws.{RowsLeft}
 use Rattle.dot.proofs.put_rows.Given as goal
 
 -- `put_rows`

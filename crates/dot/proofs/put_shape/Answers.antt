@@ -1,4 +1,3 @@
-use borrow.Author.Rules.{rules}
 use mathlib.Core.Path.{◌≡◌, sym, ap, ◌∙◌}
 use mathlib.Core.List.{◌++◌}
 use native.Mathlib.Omega.{arith}
@@ -8,7 +7,6 @@ use Rattle.rules.specs.Listing.{decimal}
 use Rattle.writing.proofs.Writings.{join}
 use Rattle.dot.specs.Dot.{line, shape}
 use Rattle.dot.proofs.DotLaws.{shape-match, shape-end, shape-plain}
-use borrow.Enum.Refused.{opened}
 use Rattle.dot.proofs.put_shape.Goals as goal
 use Rattle.dot.proofs.put_shape.Goals.{Else-ends_here-2, Then-ends_here-2}
 

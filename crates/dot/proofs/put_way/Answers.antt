@@ -1,4 +1,3 @@
-use borrow.Author.Rules.{rules}
 use mathlib.Core.Path.{◌≡◌, sym, ◌∙◌}
 use Rattle.rules.specs.Table.{Table}
 use Rattle.rules.specs.Listing.{Run}
@@ -7,7 +6,6 @@ use Rattle.writing.specs.Runs.{run_of}
 use Rattle.writing.proofs.Writings.{nothing}
 use Rattle.dot.specs.Dot.{arrow, arrow_unless_trap}
 use Rattle.dot.proofs.DotLaws.{arrow-none, arrow-one}
-use borrow.Enum.Refused.{opened}
 use Rattle.dot.proofs.put_way.Goals as goal
 use Rattle.dot.proofs.put_way.Goals.{Else-is_trap, Start}
 

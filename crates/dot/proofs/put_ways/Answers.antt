@@ -1,12 +1,7 @@
 use borrow.Author.Rules.{rules}
-use Prim.Native.Nat.{◌-◌}
 use native.Mathlib.Omega.{arith}
-use lib.ListN.{length}
-use Rattle.table.specs.Lent.{table_of}
-use Rattle.dot.specs.Dot.{arrow_unless_trap}
 use Rattle.writing.proofs.Writings.{left-length}
-use Rattle.writing.proofs.RunLaws.{RunsLeft, runs-begin, runs-over, run_room, run-written}
-use borrow.Enum.Refused.{opened}
+use Rattle.writing.proofs.RunLaws.{runs-begin, runs-over, run_room, run-written}
 use Rattle.dot.proofs.put_ways.Goals as goal
 
 pub loop-lo-init : goal.loop-lo-init
@@ -14,9 +9,9 @@ loop-lo-init c = runs-begin
 
 pub put_way-here-requires : goal.put_way-here-requires
 put_way-here-requires c = record {
-      lent = c.requires.by_index c.loop-lo.lo (omega arith);
-      room = run_room c.loop-lo.invariant c.run_end-hi.ensures c.requires.room;
-    }
+  lent = c.requires.by_index c.loop-lo.lo (omega arith);
+  room = run_room c.loop-lo.invariant c.run_end-hi.ensures c.requires.room;
+}
 
 pub loop-lo-preserved : goal.loop-lo-preserved
 loop-lo-preserved c = run-written c.loop-lo.invariant c.run_end-hi.ensures c.put_way-here.ensures

@@ -1,12 +1,8 @@
-use borrow.Author.Rules.{rules}
 use Prim.Native.Nat.{◌-◌}
-use native.Mathlib.Omega.{arith}
 use lib.ListN.{length}
 use Rattle.table.specs.Lent.{table_of}
 use Rattle.dot.specs.Dot.{arrow_unless_trap}
-use Rattle.writing.proofs.Writings.{left-length}
-use Rattle.writing.proofs.RunLaws.{RunsLeft, runs-begin, runs-over, run_room, run-written}
-use borrow.Enum.Refused.{opened}
+use Rattle.writing.proofs.RunLaws.{RunsLeft}
 use Rattle.dot.proofs.put_ways.Given as goal
 
 -- `put_ways`

@@ -1,4 +1,3 @@
-use borrow.Author.Rules.{rules}
 use mathlib.Core.Path.{◌≡◌, sym, ◌∙◌}
 use mathlib.Core.Bool.{true}
 use native.Mathlib.Omega.{arith}
@@ -8,7 +7,6 @@ use Rattle.rules.proofs.TableLaws.{well-formed-test}
 use Rattle.table.specs.Lent.{table_of}
 use Rattle.dot.proofs.Lengths.{dot-most}
 use Rattle.writing.proofs.Answered.{formed-shown, unformed-shown}
-use borrow.Enum.Refused.{opened}
 use Rattle.dot.proofs.write_dot.Goals as goal
 use Rattle.dot.proofs.write_dot.Goals.{Else-not-well_formed, Start}
 
@@ -28,7 +26,7 @@ returns-then-not-well_formed c = unformed-shown (table (goal.at.returns-then-not
 pub put_dot-n-requires : goal.put_dot-n-requires
 put_dot-n-requires c =
     let g = good (goal.at.put_dot-n-requires c).Else-not-well_formed in
- record {
+    record {
       formed = g.formed;
       room = omega (arith, dot-most g);
     }

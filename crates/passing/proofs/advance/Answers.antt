@@ -1,12 +1,9 @@
-use borrow.Author.Rules.{rules}
 use mathlib.Core.Path.{refl, sym, ◌∙◌}
-use Prim.Native.Nat.{◌-◌, ◌<◌}
+use Prim.Native.Nat.{◌<◌}
 use native.Mathlib.Omega.{arith}
 use lib.ListN.{get_or}
-use Rattle.ahead.specs.Ahead.{lent}
 use Rattle.passing.proofs.KeptLaws.{kept-few}
-use Rattle.passing.proofs.RunLaws.{Running, running_none, running_more, running-hit, running-all}
-use borrow.Enum.Refused.{opened}
+use Rattle.passing.proofs.RunLaws.{running_none, running_more, running-hit, running-all}
 use Rattle.passing.proofs.advance.Goals as goal
 use Rattle.passing.proofs.advance.Goals.{In-loop-i}
 
@@ -34,10 +31,10 @@ bounds-froms-i c = inside (goal.at.bounds-froms-i c).In-loop-i
 
 pub carry-kept-requires : goal.carry-kept-requires
 carry-kept-requires c = record {
-      ready = c.requires.ready;
-      kept = c.loop-i.invariant.kept;
-      q_lt_count = (row (goal.at.carry-kept-requires c).In-loop-i, c.requires.kept.1);
-    }
+  ready = c.requires.ready;
+  kept = c.loop-i.invariant.kept;
+  q_lt_count = (row (goal.at.carry-kept-requires c).In-loop-i, c.requires.kept.1);
+}
 
 pub overflow_cast-q : goal.overflow_cast-q
 overflow_cast-q c = omega (arith, row (goal.at.overflow_cast-q c).In-loop-i, c.requires.ready.well.few-rows)

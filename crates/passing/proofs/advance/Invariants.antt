@@ -1,12 +1,6 @@
-use borrow.Author.Rules.{rules}
-use mathlib.Core.Path.{refl, sym, ◌∙◌}
-use Prim.Native.Nat.{◌-◌, ◌<◌}
-use native.Mathlib.Omega.{arith}
-use lib.ListN.{get_or}
+use Prim.Native.Nat.{◌-◌}
 use Rattle.ahead.specs.Ahead.{lent}
-use Rattle.passing.proofs.KeptLaws.{kept-few}
-use Rattle.passing.proofs.RunLaws.{Running, running_none, running_more, running-hit, running-all}
-use borrow.Enum.Refused.{opened}
+use Rattle.passing.proofs.RunLaws.{Running}
 use Rattle.passing.proofs.advance.Given as goal
 
 abbrev pub invariant-loop-i : goal.invariant-loop-i

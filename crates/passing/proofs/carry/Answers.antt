@@ -2,8 +2,6 @@ use Prim.Native.Nat.{◌+◌, ◌*◌, ◌<◌}
 use native.Mathlib.Omega.{arith}
 use lib.ListN.{get_or}
 use Rattle.passing.proofs.RunLaws.{carried-dead, carried-joined}
-use borrow.Author.Rules.{rules}
-use borrow.Enum.Refused.{opened}
 use Rattle.passing.proofs.carry.Goals as goal
 use Rattle.passing.proofs.carry.Goals.{After-step-next}
 
@@ -19,9 +17,9 @@ returns-then-next-dead c = carried-dead _ _ c.requires.kept (c.requires.ready.st
 
 pub join-requires : goal.join-requires
 join-requires c = record {
-      kept = c.requires.kept;
-      count_le_rows_most = (c.requires.ready.well.few-rows, inside (goal.at.join-requires c).After-step-next);
-    }
+  kept = c.requires.kept;
+  count_le_rows_most = (c.requires.ready.well.few-rows, inside (goal.at.join-requires c).After-step-next);
+}
 
 pub returns : goal.returns
 returns c = carried-joined _ _ c.join.ensures c.step-next.ensures

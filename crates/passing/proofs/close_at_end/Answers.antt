@@ -1,12 +1,9 @@
-use borrow.Author.Rules.{rules}
 use mathlib.Core.Path.{sym, ◌∙◌}
-use Prim.Native.Nat.{ℕ, ◌-◌, ◌<◌}
+use Prim.Native.Nat.{◌<◌}
 use native.Mathlib.Omega.{arith}
-use Rattle.table.specs.Lent.{table_of}
 use Rattle.ahead.specs.Ahead.{lent}
 use Rattle.passing.proofs.KeptLaws.{kept-few}
 use Rattle.passing.proofs.RunLaws.{Closing, closing-none, closing-more, closing-hit, closing-all}
-use borrow.Enum.Refused.{opened}
 use Rattle.passing.proofs.close_at_end.Goals as goal
 use Rattle.passing.proofs.close_at_end.Goals.{At-loop-i, In-loop-i}
 

@@ -1,12 +1,6 @@
-use borrow.Author.Rules.{rules}
-use mathlib.Core.Path.{sym, ◌∙◌}
-use Prim.Native.Nat.{ℕ, ◌-◌, ◌<◌}
-use native.Mathlib.Omega.{arith}
+use Prim.Native.Nat.{ℕ, ◌-◌}
 use Rattle.table.specs.Lent.{table_of}
-use Rattle.ahead.specs.Ahead.{lent}
-use Rattle.passing.proofs.KeptLaws.{kept-few}
-use Rattle.passing.proofs.RunLaws.{Closing, closing-none, closing-more, closing-hit, closing-all}
-use borrow.Enum.Refused.{opened}
+use Rattle.passing.proofs.RunLaws.{Closing}
 use Rattle.passing.proofs.close_at_end.Given as goal
 
 abbrev pub invariant-loop-i : goal.invariant-loop-i

@@ -1,8 +1,6 @@
 use Prim.Native.Nat.{◌<◌}
 use native.Mathlib.Omega.{arith}
 use Rattle.passing.proofs.KeptLaws.{kept-room, joined-old, joined-new}
-use borrow.Author.Rules.{rules}
-use borrow.Enum.Refused.{opened}
 use Rattle.passing.proofs.join.Goals as goal
 use Rattle.passing.proofs.join.Goals.{Else-stamps-i}
 

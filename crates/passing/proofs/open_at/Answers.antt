@@ -1,12 +1,10 @@
 use Rattle.rules.proofs.TableLaws.{read_none}
 use Rattle.passing.proofs.RunLaws.{opened-shut, opened-new}
-use borrow.Author.Rules.{rules}
-use borrow.Enum.Refused.{opened}
 use Rattle.passing.proofs.open_at.Goals as goal
 
 pub join-requires : goal.join-requires
 join-requires c = let A = c.args in
- record {
+    record {
       kept = c.requires.kept.0;
       count_le_rows_most = (c.requires.ready.well.few-rows, (read_none c.requires.ready.well.formed A.text.now A.p c.requires.kept.1 (c.begin-q.ensures A.marks.now A.cells.now)).row);
     }

@@ -1,13 +1,8 @@
-use borrow.Author.Rules.{rules}
-use mathlib.Core.Path.{◌≡◌, ap, sym, subst, ◌∙◌}
-use Prim.Native.Nat.{ℕ, ◌+◌, ◌-◌, ◌≤◌}
-use native.Mathlib.Omega.{arith}
-use lib.ListN.{length, get_or-replicate}
+use mathlib.Core.Path.{◌≡◌}
+use Prim.Native.Nat.{◌+◌, ◌-◌, ◌≤◌}
+use lib.ListN.{length}
 use Rattle.ahead.specs.Ahead.{lent}
 use Rattle.passing.specs.Run.{first_from, outcome, Kept}
-use Rattle.passing.proofs.KeptLaws.{kept-none}
-use Rattle.passing.proofs.RunLaws.{outcome-none, opened-over}
-use borrow.Enum.Refused.{opened}
 use Rattle.passing.proofs.read_on.Given as goal
 
 abbrev pub invariant-loop-p : goal.invariant-loop-p
