@@ -1,4 +1,6 @@
 // Closing a set of nodes under the edges that are crossed.
+#![tactic(auto)]
+
 ghost use Rattle.std.specs.Prelude.{◌≡◌, ◌⊎◌, ℕ, ◌^◌, ◌*◌, ◌<◌, T, length, get_or};
 ghost use Rattle.rules.specs.Tools.{has};
 ghost use Rattle.nodesets.specs.NodeSets.{mask_of};

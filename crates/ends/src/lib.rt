@@ -1,4 +1,6 @@
 // The matchers that read a text once from one place on: whether the whole text matches, and the last end that does.
+#![tactic(auto)]
+
 ghost use Rattle.std.specs.Prelude.{◌≡◌, true, ◌&&◌, ◌+◌, ◌*◌, ◌≤◌, ◌<◌, ltb, length};
 ghost use Rattle.rules.specs.Sizes.{text_most};
 ghost use Rattle.rules.specs.Answers.{given};

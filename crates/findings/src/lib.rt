@@ -1,4 +1,6 @@
 // What comes of two patterns that were compiled, by whether their tables are the same, and what is said of it.
+#![tactic(auto)]
+
 ghost use Rattle.std.specs.Prelude.{◌≡◌};
 ghost use Rattle.findings.specs.Said.{said_of_answers};
 ghost use Rattle.findings.specs.Lent.{answer_in, HoldsAnswer, said_of_finding};

@@ -1,4 +1,6 @@
 // A pattern as a line of an input, and the line of a refusal, written into a lent buffer.
+#![tactic(auto)]
+
 ghost use Rattle.std.specs.Prelude.{◌≡◌};
 ghost use Rattle.rules.specs.Answers.{refusal, refused, given};
 ghost use Rattle.rules.specs.Listing.{listing};

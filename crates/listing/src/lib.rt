@@ -1,4 +1,6 @@
 // The listing of a table, written into a lent buffer.
+#![tactic(auto)]
+
 ghost use Rattle.std.specs.Prelude.{◌≡◌, map, ◌*◌, ◌≤◌, length};
 ghost use Rattle.rules.specs.Tools.{up_from, flat};
 ghost use Rattle.rules.specs.Answers.{given};

@@ -1,24 +1,21 @@
 -- What a round does, and what rounds lead to.
 use mathlib.Core.Path.{◌≡◌, refl, sym, ap, ◌∙◌, subst}
-use mathlib.Core.Logic.{◌⊎◌, inl, inr, ⊎_elim, ◌≢◌}
-use mathlib.Core.Bool.{Bool, true, false}
+use mathlib.Core.Logic.{◌⊎◌, inl, inr, ⊎_elim}
+use mathlib.Core.Bool.{true}
 use mathlib.Core.List.{List}
 use Prim.Native.Nat.{ℕ, zero, suc, ◌+◌, ◌*◌, ◌≤◌, ◌<◌}
-use native.Mathlib.Decide.{dec_lt, ℕ_discrete}
+use native.Mathlib.Decide.{dec_lt}
 use native.Mathlib.Omega.{arith}
 use lib.ListN.{length, get_or}
 use Rattle.rules.specs.Sizes.{rows_most}
 use Rattle.rules.specs.Grid.{Grid}
 use Rattle.rules.proofs.Tests.{is_false}
-use Rattle.rules.proofs.Lists.{at}
-use Rattle.rules.proofs.Classes.{LeastLike}
 use Rattle.sets.specs.Sets.{member}
 use Rattle.columns.specs.Columns.{Columns}
 use Rattle.grid.specs.Rows.{row_words, rows_of, Rows}
 use Rattle.grid.proofs.GridLaws.{cell_in}
-use Rattle.keys.specs.Keys.{key_on, Idle, KeysAlike, Alike, Given}
+use Rattle.keys.specs.Keys.{key_on, Idle, KeysAlike, Given}
 use Rattle.keys.proofs.KeyLaws.{key-low, idle-alike, idle-like}
-use Rattle.stretches.specs.Stretches.{Placed, Stretches}
 use Rattle.stretches.proofs.StretchLaws.{many-few, of_row, alone}
 use Rattle.chains.specs.Chains.{Labelled, Grouped}
 use Rattle.chains.proofs.ChainLaws.{label-cases}
@@ -26,9 +23,8 @@ use Rattle.cutting.specs.Cutting.{Standing, CutTo}
 use Rattle.cutting.proofs.CutLaws.{cut-whole}
 use Rattle.leads.specs.Leads.{Leads, Reach, Spans, TouchedAll}
 use Rattle.waiting.specs.Refined.{Refined}
-use Rattle.waiting.proofs.WaitLaws.{Waiting, first, refined, named-least}
-use Rattle.naming.specs.Naming.{LeastOf, Numbers}
-use Rattle.round.specs.Groups.{Single, Sorted, Lists, Ends, Touches}
+use Rattle.waiting.proofs.WaitLaws.{Waiting, first, named-least}
+use Rattle.round.specs.Groups.{Sorted, Lists, Ends, Touches}
 use Rattle.settling.specs.Settling.{Drawn, Scratch, MarksTell, Settled}
 
 -- ---- one round

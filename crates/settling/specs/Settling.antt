@@ -1,7 +1,6 @@
 -- What the rounds are given and leave.
-use Rattle.std.specs.Prelude.{◌≡◌, List, ℕ, ◌*◌, ◌≤◌, ◌<◌, length, get_or}
+use Rattle.std.specs.Prelude.{◌≡◌, List, ℕ, ◌*◌, ◌<◌, length, get_or}
 use Rattle.rules.specs.Compiled.{classes}
-use Rattle.rules.specs.Sizes.{rows_most}
 use Rattle.columns.specs.Columns.{Columns}
 use Rattle.grid.specs.Rows.{row_words, rows_of, Rows}
 use Rattle.leads.specs.Leads.{RowListed}

@@ -1,5 +1,7 @@
 // Rounds until no class waits: a round cuts classes by what leads to a class that waits, and the new classes wait for the next. Of a class
 // that is cut the longest part keeps its number, so that no row waits often.
+#![tactic(auto)]
+
 ghost use Rattle.std.specs.Prelude.{List, ℕ, ◌≤◌, ◌<◌, length};
 ghost use Rattle.rules.specs.Grid.{Grid};
 ghost use Rattle.grid.specs.Rows.{rows_of};

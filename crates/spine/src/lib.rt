@@ -1,4 +1,6 @@
 // The way down a part's left parts, past rows and choices. The spine has the places of their operations, in the order of passing.
+#![tactic(auto)]
+
 ghost use Rattle.std.specs.Prelude.{◌≡◌, true, false, ◌+◌, ◌-◌, ◌^◌, ◌<◌, ◌≤◌, length};
 ghost use Rattle.rules.specs.Sizes.{nodes_most};
 ghost use Rattle.program.specs.Program.{program_most, operation_at};

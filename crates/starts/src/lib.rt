@@ -1,4 +1,6 @@
 // All starts, of anything that is lent. No text makes them quadratic.
+#![tactic(auto)]
+
 ghost use Rattle.std.specs.Prelude.{◌≡◌};
 ghost use Rattle.rules.specs.Matchers.{starts_answer};
 ghost use Rattle.table.specs.Lent.{table_of};

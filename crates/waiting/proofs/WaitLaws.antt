@@ -1,19 +1,19 @@
 -- Classes by numbers that say nothing of rows, refined by classes that wait; at the end each is named by its least row.
-use mathlib.Core.Path.{◌≡◌, refl, ◌∙◌, sym, ap, subst}
+use mathlib.Core.Path.{◌≡◌, ◌∙◌, sym, ap}
 use mathlib.Core.Logic.{◌≢◌, ◌⊎◌, inl, inr, ⊎_elim}
 use mathlib.Core.List.{List, [], ◌∷◌}
-use Prim.Native.Nat.{ℕ, ◌+◌, ◌*◌, ◌<◌, ◌≤◌}
+use Prim.Native.Nat.{ℕ, ◌<◌, ◌≤◌}
 use native.Mathlib.Decide.{ℕ_discrete, dec_lt}
 use native.Mathlib.Omega.{arith}
 use lib.ListN.{length, get_or}
 use Rattle.rules.specs.Grid.{Grid}
 use Rattle.rules.specs.Compiled.{classes}
 use Rattle.rules.proofs.Lists.{at}
-use Rattle.rules.proofs.Classes.{LeastLike, Apart, Classes, Stable, Named, classes-only}
+use Rattle.rules.proofs.Classes.{LeastLike, Apart, classes-only}
 use Rattle.grid.specs.Rows.{rows_of}
 use Rattle.grid.proofs.GridLaws.{rows-length, cell_at, in_rows, out-rows}
-use Rattle.keys.specs.Keys.{key, key_on, KeysAlike}
-use Rattle.keys.proofs.KeyLaws.{key-low, key-high, key-zero, some_byte}
+use Rattle.keys.specs.Keys.{key, key_on}
+use Rattle.keys.proofs.KeyLaws.{key-low, key-high, some_byte}
 use Rattle.waiting.specs.Refined.{Refined}
 
 module _ (cells : List ℕ) {ms : List ℕ} (n : ℕ) (G : Grid (rows_of cells n) ms) where

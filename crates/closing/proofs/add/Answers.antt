@@ -3,7 +3,6 @@ use mathlib.Core.Logic.{inl, inr}
 use native.Mathlib.Omega.{arith}
 use Rattle.rules.proofs.Tests.{is_true, is_false}
 use borrow.Author.Rules.{rules}
-use borrow.Enum.Refused.{opened}
 use Rattle.closing.proofs.add.Goals as goal
 
 pub returns-then-is_in : goal.returns-then-is_in

@@ -1,7 +1,5 @@
 use mathlib.Core.Path.{refl, ◌∙◌}
 use Rattle.closing.proofs.Sweeps.{advanced-past, advanced-on, taken-lt}
-use borrow.Author.Rules.{rules}
-use borrow.Enum.Refused.{opened}
 use Rattle.closing.proofs.advance.Goals as goal
 
 pub returns-then-pending-i-eq0 : goal.returns-then-pending-i-eq0

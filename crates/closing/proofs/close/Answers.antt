@@ -1,15 +1,8 @@
 use borrow.Author.Rules.{rules}
-use mathlib.Core.Path.{◌≡◌, refl, sym, ◌∙◌}
-use Prim.Native.Nat.{◌^◌, ◌≤◌, ◌<◌}
+use mathlib.Core.Path.{refl, sym, ◌∙◌}
 use native.Mathlib.Omega.{arith}
-use lib.Dec.{T}
 use lib.ListN.{length}
-use Rattle.rules.specs.Tools.{has}
-use Rattle.nodesets.specs.NodeSets.{mask_of}
-use Rattle.rules.specs.SetRows.{crosses}
-use Rattle.closing.specs.Closing.{ways, closing, Full, Sweep, left}
 use Rattle.closing.proofs.Sweeps.{closing-full, sweep-start, sweep-end}
-use borrow.Enum.Refused.{opened}
 use Rattle.closing.proofs.close.Goals as goal
 
 pub loop-i-init : goal.loop-i-init

@@ -1,15 +1,11 @@
-use borrow.Author.Rules.{rules}
-use mathlib.Core.Path.{◌≡◌, refl, sym, ◌∙◌}
+use mathlib.Core.Path.{◌≡◌}
 use Prim.Native.Nat.{◌^◌, ◌≤◌, ◌<◌}
-use native.Mathlib.Omega.{arith}
 use lib.Dec.{T}
 use lib.ListN.{length}
 use Rattle.rules.specs.Tools.{has}
 use Rattle.nodesets.specs.NodeSets.{mask_of}
 use Rattle.rules.specs.SetRows.{crosses}
 use Rattle.closing.specs.Closing.{ways, closing, Full, Sweep, left}
-use Rattle.closing.proofs.Sweeps.{closing-full, sweep-start, sweep-end}
-use borrow.Enum.Refused.{opened}
 use Rattle.closing.proofs.close.Given as goal
 
 abbrev pub invariant-loop-i : goal.invariant-loop-i

@@ -1,15 +1,10 @@
-use borrow.Author.Rules.{rules}
-use mathlib.Core.Path.{◌≡◌, refl, sym, ◌∙◌}
+use mathlib.Core.Path.{◌≡◌}
 use Prim.Native.Nat.{◌-◌, ◌^◌, ◌<◌}
-use native.Mathlib.Omega.{arith}
 use lib.ListN.{length}
-use Rattle.rules.proofs.Tests.{is_true, is_false}
 use Rattle.nodesets.specs.NodeSets.{mask_of}
 use Rattle.rules.specs.SetRows.{crosses}
 use Rattle.closing.specs.Closing.{ways, Onward}
-use Rattle.closing.proofs.Ways.{leads-two, leads-nowhere}
-use Rattle.closing.proofs.Sweeps.{OrNode, onward-none, onward_then, onward-stop, one-low, two-low, onward-last, onward-on}
-use borrow.Enum.Refused.{opened}
+use Rattle.closing.proofs.Sweeps.{OrNode}
 use Rattle.closing.proofs.follow.Given as goal
 
 abbrev pub invariant-loop-a : goal.invariant-loop-a

@@ -1,8 +1,6 @@
 use mathlib.Core.Path.{sym}
 use Rattle.closing.specs.Closing.{targets_of}
 use Rattle.closing.proofs.Ways.{other-targets}
-use borrow.Author.Rules.{rules}
-use borrow.Enum.Refused.{opened}
 use Rattle.closing.proofs.leads_to.Goals as goal
 
 pub returns-then-k-eq-EMPTY : goal.returns-then-k-eq-EMPTY

@@ -1,5 +1,3 @@
-use borrow.Author.Rules.{rules}
-use borrow.Enum.Refused.{opened}
 use Rattle.entries.proofs.link.Goals as goal
 
 pub returns-in-TooMany : goal.returns-in-TooMany

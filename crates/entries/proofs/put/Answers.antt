@@ -1,6 +1,4 @@
-use borrow.Author.Rules.{rules}
 use Rattle.entries.proofs.EntryLaws.{stored}
-use borrow.Enum.Refused.{opened}
 use Rattle.entries.proofs.put.Goals as goal
 
 pub returns : goal.returns

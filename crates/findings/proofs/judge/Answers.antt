@@ -1,15 +1,13 @@
-use borrow.Author.Rules.{rules}
 use Rattle.findings.specs.Said.{said_of_answers}
 use Rattle.findings.proofs.TableTest.{said_same, said-different}
-use borrow.Enum.Refused.{opened}
 use Rattle.findings.proofs.judge.Goals as goal
 
 -- `judge` meets its contract: the four cases of two answers, and of two tables whether they are the same.
 pub same_table-requires : goal.same_table-requires
 same_table-requires c = record {
-      holds = rw c.in-Table.is at c.requires.holds_answer;
-      holds_2 = rw c.in-Table-second-2.is at c.requires.holds_answer_2;
-    }
+  holds = rw c.in-Table.is at c.requires.holds_answer;
+  holds_2 = rw c.in-Table-second-2.is at c.requires.holds_answer_2;
+}
 
 pub returns-in-Refused-second : goal.returns-in-Refused-second
 unfolding said_of_answers

@@ -1,8 +1,6 @@
-use borrow.Author.Rules.{rules}
 use native.Mathlib.Omega.{arith}
 use lib.ListN.{length-append}
 use Rattle.writing.proofs.Writings.{join}
-use borrow.Enum.Refused.{opened}
 use Rattle.listing.proofs.put_row.Goals as goal
 
 pub put_number-here-requires : goal.put_number-here-requires
@@ -16,9 +14,9 @@ put_number-here-requires-2 c = omega (arith, simp length-append at c.requires.ro
 
 pub put_runs-here-requires : goal.put_runs-here-requires
 put_runs-here-requires c = record {
-      cells_len = c.requires.cells_len;
-      room = omega (arith, simp length-append at c.requires.room);
-    }
+  cells_len = c.requires.cells_len;
+  room = omega (arith, simp length-append at c.requires.room);
+}
 
 pub put-requires : goal.put-requires
 put-requires c = omega (arith, simp length-append at c.requires.room)

@@ -1,8 +1,6 @@
-use borrow.Author.Rules.{rules}
 use native.Mathlib.Omega.{arith}
 use lib.ListN.{length-append}
 use Rattle.writing.proofs.Writings.{join}
-use borrow.Enum.Refused.{opened}
 use Rattle.listing.proofs.put_run.Goals as goal
 
 pub put_number-here-requires : goal.put_number-here-requires

@@ -1,10 +1,6 @@
 use borrow.Author.Rules.{rules}
-use Prim.Native.Nat.{◌-◌}
-use lib.ListN.{length}
-use Rattle.rules.specs.Listing.{run_text}
 use Rattle.writing.proofs.Writings.{left-length}
-use Rattle.writing.proofs.RunLaws.{RunsLeft, runs-begin, runs-over, run_room, run-written}
-use borrow.Enum.Refused.{opened}
+use Rattle.writing.proofs.RunLaws.{runs-begin, runs-over, run_room, run-written}
 use Rattle.listing.proofs.put_runs.Goals as goal
 
 pub loop-lo-init : goal.loop-lo-init

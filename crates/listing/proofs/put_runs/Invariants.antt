@@ -1,10 +1,7 @@
-use borrow.Author.Rules.{rules}
 use Prim.Native.Nat.{◌-◌}
 use lib.ListN.{length}
 use Rattle.rules.specs.Listing.{run_text}
-use Rattle.writing.proofs.Writings.{left-length}
-use Rattle.writing.proofs.RunLaws.{RunsLeft, runs-begin, runs-over, run_room, run-written}
-use borrow.Enum.Refused.{opened}
+use Rattle.writing.proofs.RunLaws.{RunsLeft}
 use Rattle.listing.proofs.put_runs.Given as goal
 
 abbrev pub invariant-loop-lo : goal.invariant-loop-lo

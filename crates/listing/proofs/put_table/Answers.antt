@@ -1,9 +1,7 @@
-use borrow.Author.Rules.{rules}
 use native.Mathlib.Omega.{arith}
 use lib.ListN.{length-append}
 use Rattle.writing.proofs.Writings.{join}
 use Rattle.rules.specs.Listing.{listing}
-use borrow.Enum.Refused.{opened}
 use Rattle.listing.proofs.put_table.Goals as goal
 
 pub put_number-here-requires : goal.put_number-here-requires
@@ -25,9 +23,9 @@ put-here-requires c = omega (arith, simp length-append at c.requires.room)
 pub put_rows-requires : goal.put_rows-requires
 unfolding listing
 put_rows-requires c = record {
-      rows_in_bounds = c.requires.rows_in_bounds;
-      room = omega (arith, simp length-append at c.requires.room);
-    }
+  rows_in_bounds = c.requires.rows_in_bounds;
+  room = omega (arith, simp length-append at c.requires.room);
+}
 
 pub returns : goal.returns
 unfolding listing

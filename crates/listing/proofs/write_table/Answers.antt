@@ -1,4 +1,3 @@
-use borrow.Author.Rules.{rules}
 use mathlib.Core.Path.{◌≡◌, sym, ◌∙◌}
 use mathlib.Core.Bool.{true}
 use native.Mathlib.Omega.{arith}
@@ -8,7 +7,6 @@ use Rattle.rules.proofs.TableLaws.{well-formed-test}
 use Rattle.table.specs.Lent.{table_of}
 use Rattle.listing.proofs.LineLaws.{listing-most}
 use Rattle.writing.proofs.Answered.{formed-shown, unformed-shown}
-use borrow.Enum.Refused.{opened}
 use Rattle.listing.proofs.write_table.Goals as goal
 use Rattle.listing.proofs.write_table.Goals.{Else-not-well_formed, Start}
 

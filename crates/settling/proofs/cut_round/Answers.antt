@@ -1,9 +1,7 @@
-use borrow.Author.Rules.{rules}
 use mathlib.Core.Path.{refl, sym, ◌∙◌}
 use native.Mathlib.Omega.{arith}
 use Rattle.stretches.proofs.StretchLaws.{many-few}
 use Rattle.settling.proofs.RoundLaws.{to-reach, to-spans, to-given, to-lists, to-ends, touches, labelled, to-grouped, refined-cut}
-use borrow.Enum.Refused.{opened}
 use Rattle.settling.proofs.cut_round.Goals as goal
 
 pub list-requires : goal.list-requires
@@ -16,7 +14,7 @@ overflow_cast-from c =
 
 pub sort-groups-requires : goal.sort-groups-requires
 sort-groups-requires c =
-    let n = c.requires.standing.0.stretches.class-long in  record {
+    let n = c.requires.standing.0.stretches.class-long in record {
       given = (to-given c.requires.standing.0 c.requires.drawn.0, (to-lists c.requires.standing.0 c.requires.drawn.1, to-ends c.requires.standing.0));
       firsts_len = (c.requires.drawn.1.firsts-long ∙ sym n, c.requires.drawn.1.links-long ∙ sym n);
       touches = (touches c.requires.standing.0 c.list.new.set c.requires.drawn.0 c.list.ensures, omega (arith, n, c.requires.standing.0.placed.few, c.list.auto.set, c.requires.drawn.1.touched-long));
@@ -24,9 +22,9 @@ sort-groups-requires c =
 
 pub cut_groups-requires : goal.cut_groups-requires
 cut_groups-requires c = record {
-      standing = c.requires.standing.0;
-      grouped = to-grouped c.requires.standing.0 c.sort-groups.ensures;
-    }
+  standing = c.requires.standing.0;
+  grouped = to-grouped c.requires.standing.0 c.sort-groups.ensures;
+}
 
 pub shape_of-touched : goal.shape_of-touched
 shape_of-touched c = c.list.auto.set
@@ -35,7 +33,7 @@ pub returns : goal.returns
 returns c =
     let B = c.sort-groups.ensures in
     let C = c.cut_groups.ensures.by_index c.sort-groups.ensures.label c.sort-groups.ensures.count (labelled c.requires.standing.0 B) in
- record {
+    record {
       standing_2 = c.cut_groups.ensures.standing_2;
       refined = (refined-cut c.requires.standing.0 B C, C.more);
     }

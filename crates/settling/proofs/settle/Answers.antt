@@ -1,11 +1,7 @@
-use borrow.Author.Rules.{rules}
-use mathlib.Core.Path.{refl, sym, ◌∙◌}
-use Prim.Native.Nat.{◌-◌}
+use mathlib.Core.Path.{sym, ◌∙◌}
 use native.Mathlib.Omega.{arith}
-use lib.ListN.{length}
 use Rattle.stretches.proofs.StretchLaws.{many-few}
-use Rattle.settling.proofs.RoundsLaws.{Rounds, first_round, to-round, next-round, all_settled}
-use borrow.Enum.Refused.{opened}
+use Rattle.settling.proofs.RoundsLaws.{first_round, to-round, next-round, all_settled}
 use Rattle.settling.proofs.settle.Goals as goal
 
 pub loop-from-init : goal.loop-from-init

@@ -1,11 +1,6 @@
-use borrow.Author.Rules.{rules}
-use mathlib.Core.Path.{refl, sym, ◌∙◌}
 use Prim.Native.Nat.{◌-◌}
-use native.Mathlib.Omega.{arith}
 use lib.ListN.{length}
-use Rattle.stretches.proofs.StretchLaws.{many-few}
-use Rattle.settling.proofs.RoundsLaws.{Rounds, first_round, to-round, next-round, all_settled}
-use borrow.Enum.Refused.{opened}
+use Rattle.settling.proofs.RoundsLaws.{Rounds}
 use Rattle.settling.proofs.settle.Given as goal
 
 abbrev pub invariant-loop-from : goal.invariant-loop-from

@@ -8,8 +8,6 @@ use Rattle.nodesets.specs.NodeSets.{mask_of}
 use Rattle.nodesets.proofs.NodeSetLaws.{meets-has, length_meets, meets-lt}
 use Rattle.closing.proofs.Sweeps.{has-lt}
 use Rattle.closing.proofs.MarkLaws.{mark-3, mark-2, mark-0, full-but-tails}
-use borrow.Author.Rules.{rules}
-use borrow.Enum.Refused.{opened}
 use Rattle.closing.proofs.marks.mark_of.Goals as goal
 
 pub returns-then-is_in : goal.returns-then-is_in
@@ -21,7 +19,7 @@ pub close-requires : goal.close-requires
 close-requires c =
     let args = c.args in
     let A = args in
-    let e = c.meet.ensures in  record {
+    let e = c.meet.ensures in record {
       nodes = (c.requires.nodes.0, (c.requires.nodes.1.0, (ap length e ∙ length_meets A.set.now A.tails.now c.requires.nodes.1.1.1.0, (c.requires.nodes.1.1.1.1.1, rw e (meets-lt (length A.kind.now) A.set.now A.tails.now (λ v h. has-lt _ _ v c.requires.nodes.1.1.1.1.1 h))))));
       by_index = (rw e ((λ v h. both_left (has (mask_of A.set.now) v) (has (mask_of A.tails.now) v) (subst T (meets-has A.set.now A.tails.now v) h)), full-but-tails A.head A.kind.now A.to1.now A.to2.now A.set.now A.tails.now c.requires.tails.0 c.requires.tails.1));
     }

@@ -1,8 +1,6 @@
 use mathlib.Core.Path.{refl}
 use Rattle.rules.proofs.Sets.{with-has, with-keeps}
 use Rattle.nodesets.specs.NodeSets.{mask_of}
-use borrow.Author.Rules.{rules}
-use borrow.Enum.Refused.{opened}
 use Rattle.closing.proofs.marks.put_tail.Goals as goal
 
 pub returns-then-kind-u-eq-TAIL : goal.returns-then-kind-u-eq-TAIL

@@ -1,13 +1,7 @@
 use borrow.Author.Rules.{rules}
-use mathlib.Core.Path.{◌≡◌, refl, ◌∙◌}
-use Prim.Native.Nat.{ℕ, ◌-◌, ◌≤◌, ◌<◌}
+use mathlib.Core.Path.{refl, ◌∙◌}
 use native.Mathlib.Omega.{arith}
-use lib.Dec.{T}
-use lib.ListN.{length, get_or}
-use Rattle.rules.specs.Tools.{has}
-use Rattle.nodesets.specs.NodeSets.{mask_of}
 use Rattle.closing.proofs.MarkLaws.{tails-more}
-use borrow.Enum.Refused.{opened}
 use Rattle.closing.proofs.marks.put_tails.Goals as goal
 
 pub loop-u-init : goal.loop-u-init

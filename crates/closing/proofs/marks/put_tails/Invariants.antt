@@ -1,13 +1,9 @@
-use borrow.Author.Rules.{rules}
-use mathlib.Core.Path.{◌≡◌, refl, ◌∙◌}
+use mathlib.Core.Path.{◌≡◌}
 use Prim.Native.Nat.{ℕ, ◌-◌, ◌≤◌, ◌<◌}
-use native.Mathlib.Omega.{arith}
 use lib.Dec.{T}
 use lib.ListN.{length, get_or}
 use Rattle.rules.specs.Tools.{has}
 use Rattle.nodesets.specs.NodeSets.{mask_of}
-use Rattle.closing.proofs.MarkLaws.{tails-more}
-use borrow.Enum.Refused.{opened}
 use Rattle.closing.proofs.marks.put_tails.Given as goal
 
 abbrev pub invariant-loop-u : goal.invariant-loop-u

@@ -1,11 +1,7 @@
 use borrow.Author.Rules.{rules}
-use mathlib.Core.Path.{◌≡◌, sym, ◌∙◌}
-use Prim.Native.Nat.{◌-◌, ◌≤◌}
+use mathlib.Core.Path.{sym, ◌∙◌}
 use native.Mathlib.Omega.{arith}
-use lib.ListN.{length, drop}
-use Rattle.rules.specs.Tools.{same}
 use Rattle.findings.proofs.ByPlace.{same-on, same-apart, same_over}
-use borrow.Enum.Refused.{opened}
 use Rattle.findings.proofs.tables.same_cells.Goals as goal
 
 pub returns-then-cells-i : goal.returns-then-cells-i

@@ -1,11 +1,7 @@
-use borrow.Author.Rules.{rules}
-use mathlib.Core.Path.{◌≡◌, sym, ◌∙◌}
+use mathlib.Core.Path.{◌≡◌}
 use Prim.Native.Nat.{◌-◌, ◌≤◌}
-use native.Mathlib.Omega.{arith}
 use lib.ListN.{length, drop}
 use Rattle.rules.specs.Tools.{same}
-use Rattle.findings.proofs.ByPlace.{same-on, same-apart, same_over}
-use borrow.Enum.Refused.{opened}
 use Rattle.findings.proofs.tables.same_cells.Given as goal
 
 -- `same_cells` meets its contract: what is left to compare decides.

@@ -1,15 +1,13 @@
-use borrow.Author.Rules.{rules}
 use mathlib.Core.Path.{◌≡◌, sym, subst, ◌∙◌}
 use mathlib.Core.Bool.{Bool}
 use Prim.Native.Nat.{ℕ, ◌*◌}
 use native.Mathlib.Omega.{arith}
 use lib.ListN.{take, length-take}
-use borrow.Author.Tests.{not-true, not-false}
+use borrow.Author.Tests.{not-true}
 use Rattle.rules.specs.Tools.{same}
 use Rattle.rules.specs.Table.{Table}
 use Rattle.findings.specs.Lent.{front_table}
 use Rattle.findings.proofs.TableTest.{counts-apart, heads-apart, marks-apart, cells_left}
-use borrow.Enum.Refused.{opened}
 use Rattle.findings.proofs.tables.same_table.Goals as goal
 use Rattle.findings.proofs.tables.same_table.Goals.{Start}
 

@@ -1,7 +1,5 @@
-use borrow.Author.Rules.{rules}
 use native.Mathlib.Omega.{arith}
 use Rattle.writing.proofs.Writings.{join}
-use borrow.Enum.Refused.{opened}
 use Rattle.findings.proofs.texts.put_finding.Goals as goal
 
 -- `put_finding` meets its contract: the text of each case, none of them longer than two lines of refusals.

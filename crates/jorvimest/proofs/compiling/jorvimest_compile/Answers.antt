@@ -1,0 +1,15 @@
+use borrow.Author.Rules.{rules}
+use borrow.Enum.Refused.{opened}
+use Rattle.jorvimest.proofs.compiling.jorvimest_compile.Goals as goal
+
+-- `jorvimest_compile` meets its contract: the numbers of the answer, and the room as compiling leaves it.
+pub returns : goal.returns
+returns c =
+    let put = rw c.compile-answer.ensures.answer at c.put_compiled.ensures in
+ record {
+      code = put.0;
+      rows = put.1.0;
+      head = put.1.1.0;
+      place = put.1.1.1;
+      room = c.compile-answer.ensures.room;
+    }
