@@ -11,4 +11,4 @@ returns-then-at-line c = rw (c.hex_value.ensures.0, c.hex_value-then-at-line.ens
     (escaped _ _ (omega arith) c.if-line-at-eq37.true)
 
 pub returns : goal.returns
-returns c = plain _ _ (omega arith) (λ long e. ⊎_elim (λ w. omega (arith, w.if-at-line)) (λ w. w.false e) c.if-line-at-eq37.branch-raw)
+returns c = plain _ _ (omega arith) (λ long e. ⊎_elim (λ w. omega (arith, w.if-at-line)) (λ w. w.if-line-at-eq37.false e) c.if-line-at-eq37.branch-raw)

@@ -1,14 +1,8 @@
-use mathlib.Core.Path.{refl}
-use native.Mathlib.Omega.{arith}
-use borrow.Author.Rules.{rules}
 use Rattle.readings.specs.Lines.{Begun}
-use borrow.Enum.Refused.{opened}
 use Rattle.readings.proofs.main.Given as goal
 
--- TODO
-abbrev invariant-loop : tie.invariant-loop
-invariant-loop line₀ n₀ pieces₀ line n pieces = Begun line n
+abbrev pub invariant-loop-pieces : goal.invariant-loop-pieces
+invariant-loop-pieces l = Begun l.line l.n
 
--- TODO
-abbrev decreases-loop : tie.decreases-loop
-decreases-loop line₀ n₀ pieces₀ line n pieces = pieces
+abbrev pub decreases-loop-pieces : goal.decreases-loop-pieces
+decreases-loop-pieces l = l.pieces

@@ -6,10 +6,10 @@ use Rattle.jorvimest.proofs.compiling.jorvimest_compile.Goals as goal
 pub returns : goal.returns
 returns c =
     let put = rw c.compile-answer.ensures.answer at c.put_compiled.ensures in
- record {
-      code = put.0;
-      rows = put.1.0;
-      head = put.1.1.0;
-      place = put.1.1.1;
+    record {
+      code = put.code;
+      rows = put.rows;
+      head = put.head;
+      place = put.place;
       room = c.compile-answer.ensures.room;
     }

@@ -9,8 +9,8 @@ pub returns : goal.returns
 returns c =
     let listed = c.starts-answer.ensures in
     let put = rw (ap (λ (o : Listed). o.answer) listed) at c.put_starts.ensures in
- record {
-      code = put.0;
-      count = put.1;
+    record {
+      code = put.code;
+      count = put.count;
       list = ap (λ (o : Listed). o.list) listed;
     }

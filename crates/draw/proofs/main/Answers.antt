@@ -1,0 +1,12 @@
+use borrow.Author.Rules.{rules}
+use borrow.Enum.Refused.{opened}
+use Rattle.draw.proofs.main.Goals as goal
+
+-- `main` is safe: the bytes that were read are a beginning of the buffer.
+pub slice_bounds-input-end : goal.slice_bounds-input-end
+slice_bounds-input-end c =
+    (rw c.in-Bytes.is at c.read_input-read.ensures).0
+
+pub slice_bounds-write-end : goal.slice_bounds-write-end
+slice_bounds-write-end c =
+    (rw c.in-Bytes.is at c.read_input-read.ensures).1
