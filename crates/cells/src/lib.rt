@@ -1,4 +1,6 @@
 // A row's nodes, and its cells.
+#![tactic(auto)]
+
 ghost use Rattle.std.specs.Prelude.{◌≡◌, ◌+◌, ◌*◌, ◌^◌, ◌≤◌, ◌<◌, length, get_or, replicate};
 ghost use Rattle.rules.specs.Sizes.{words_a_row};
 ghost use Rattle.nodesets.specs.NodeSets.{mask_of, row_words, meets, Within};

@@ -1,4 +1,6 @@
 // First, and first as a part of the text, of anything that is lent. No text makes them quadratic.
+#![tactic(auto)]
+
 ghost use Rattle.std.specs.Prelude.{◌≡◌, true, ◌≤◌, length};
 ghost use Rattle.rules.specs.Sizes.{text_most};
 ghost use Rattle.rules.specs.Table.{well_formed};

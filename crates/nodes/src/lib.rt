@@ -1,4 +1,6 @@
 // From the reader's program to numbered nodes; refusal 10 where there are too many.
+#![tactic(auto)]
+
 ghost use Rattle.std.specs.Prelude.{◌≤◌, length};
 ghost use Rattle.entries.specs.Entries.{lists};
 ghost use Rattle.nodes.specs.Fragments.{Ready};

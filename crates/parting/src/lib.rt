@@ -1,5 +1,7 @@
 // Classes of rows that nothing tells apart: all rows are one class at first, which is cut by marks, and then round by round until no class
 // waits; each is named by its least row.
+#![tactic(auto)]
+
 ghost use Rattle.std.specs.Prelude.{◌≡◌, ◌*◌, ◌≤◌, length};
 ghost use Rattle.rules.specs.Grid.{Grid};
 ghost use Rattle.rules.specs.Compiled.{classes};

@@ -1,4 +1,6 @@
 // From nodes to set rows: their cells and marks, in the order in which they are reached; refusal 11 where there are too many.
+#![tactic(auto)]
+
 ghost use Rattle.std.specs.Prelude.{◌≡◌, ◌+◌, ◌/◌, ◌≤◌, ◌<◌, min, length};
 ghost use Rattle.rules.specs.Compile.{rows_for};
 ghost use Rattle.runs.specs.Runs.{PartedInto};

@@ -1,4 +1,6 @@
 // Runs of bytes that no atom parts, and for each run the nodes whose edge is crossed on its bytes.
+#![tactic(auto)]
+
 ghost use Rattle.std.specs.Prelude.{◌≡◌, ◌*◌, ◌≤◌, ◌<◌, length, get_or, replicate};
 ghost use Rattle.rules.specs.Sizes.{nodes_most, words_a_row};
 ghost use Rattle.bytesets.specs.ByteSets.{bytes_of};

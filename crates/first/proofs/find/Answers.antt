@@ -9,7 +9,6 @@ use Rattle.ahead.specs.Ahead.{Ready}
 use Rattle.passing.specs.Run.{first_from}
 use Rattle.passing.proofs.FirstLaws.{first-none}
 use Rattle.first.proofs.TriesLaws.{first-here}
-use borrow.Enum.Refused.{opened}
 use Rattle.first.proofs.find.Goals as goal
 use Rattle.first.proofs.find.Goals.{After-dead_row-dead, Start}
 
@@ -27,9 +26,9 @@ try_each-tried-requires c = ready (goal.at.try_each-tried-requires c).After-dead
 
 pub last_match-requires : goal.last_match-requires
 last_match-requires c = record {
-      ready = ready (goal.at.last_match-requires c).After-dead_row-dead;
-      s_in_bounds = (c.try_each-tried.ensures.hit c.if-tried.true).0;
-    }
+  ready = ready (goal.at.last_match-requires c).After-dead_row-dead;
+  s_in_bounds = (c.try_each-tried.ensures.hit c.if-tried.true).0;
+}
 
 pub returns-then-tried : goal.returns-then-tried
 returns-then-tried c = let h = c.try_each-tried.ensures.hit c.if-tried.true in
@@ -41,9 +40,9 @@ returns-then-text-at c = let e : c.try_each-tried.result.at ≡ length c.args.te
 
 pub read_on-requires : goal.read_on-requires
 read_on-requires c = record {
-      ready = ready (goal.at.read_on-requires c).After-dead_row-dead;
-      from_in_bounds = c.if-text-at.false;
-    }
+  ready = ready (goal.at.read_on-requires c).After-dead_row-dead;
+  from_in_bounds = c.if-text-at.false;
+}
 
 pub returns : goal.returns
 returns c = c.read_on.ensures ∙ sym c.try_each-tried.ensures.past

@@ -7,8 +7,6 @@ use Rattle.rules.specs.Matchers.{first_answer}
 use Rattle.rules.proofs.TableLaws.{checked-13, checked-12, checked-past}
 use Rattle.table.specs.Lent.{table_of}
 use Rattle.passing.specs.Run.{found_of}
-use borrow.Author.Rules.{rules}
-use borrow.Enum.Refused.{opened}
 use Rattle.first.proofs.first.Goals as goal
 use Rattle.first.proofs.first.Goals.{Else-not-well_formed}
 
@@ -25,9 +23,9 @@ returns-then-text-gt-TEXT_MOST c = sym (checked-12 _ _ _ (formed (goal.at.return
 
 pub find-found-requires : goal.find-found-requires
 find-found-requires c = record {
-      cells_value = formed (goal.at.find-found-requires c).Else-not-well_formed;
-      text_len_bound = c.if-text-gt-TEXT_MOST.false;
-    }
+  cells_value = formed (goal.at.find-found-requires c).Else-not-well_formed;
+  text_len_bound = c.if-text-gt-TEXT_MOST.false;
+}
 
 pub returns-in-Match : goal.returns-in-Match
 unfolding first_answer

@@ -12,8 +12,6 @@ use Rattle.rules.proofs.TableLaws.{checked-13, checked-12, checked-past}
 use Rattle.table.specs.Lent.{table_of}
 use Rattle.passing.specs.Run.{found_of}
 use Rattle.first.proofs.AnswerLaws.{first-within, cut, hands-back}
-use borrow.Author.Rules.{rules}
-use borrow.Enum.Refused.{opened}
 use Rattle.first.proofs.first_part.Goals as goal
 use Rattle.first.proofs.first_part.Goals.{After-find-found, Else-not-well_formed, In-Match, Start}
 
@@ -40,9 +38,9 @@ returns-then-n-gt-TEXT_MOST c = hands-back (ap (part_of _) (checked-12 _ _ _ (fo
 
 pub find-found-requires : goal.find-found-requires
 find-found-requires c = record {
-      cells_value = formed (goal.at.find-found-requires c).Else-not-well_formed;
-      text_len_bound = c.if-n-gt-TEXT_MOST.false;
-    }
+  cells_value = formed (goal.at.find-found-requires c).Else-not-well_formed;
+  text_len_bound = c.if-n-gt-TEXT_MOST.false;
+}
 
 pub slice_bounds-result-start-in-Match : goal.slice_bounds-result-start-in-Match
 slice_bounds-result-start-in-Match c = (within (goal.at.slice_bounds-result-start-in-Match c).In-Match).0

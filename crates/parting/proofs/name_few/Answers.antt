@@ -1,8 +1,6 @@
-use borrow.Author.Rules.{rules}
 use mathlib.Core.Path.{sym}
 use lib.ListN.{length, take, replicate}
 use Rattle.parting.proofs.PartLaws.{zeros-few, to-name}
-use borrow.Enum.Refused.{opened}
 use Rattle.parting.proofs.name_few.Goals as goal
 
 pub slice_bounds-name_in-end : goal.slice_bounds-name_in-end

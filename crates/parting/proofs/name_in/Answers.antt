@@ -1,15 +1,13 @@
-use borrow.Author.Rules.{rules}
 use mathlib.Core.Path.{sym, ◌∙◌}
 use Rattle.parting.proofs.PartLaws.{to-numbers, settled-names}
-use borrow.Enum.Refused.{opened}
 use Rattle.parting.proofs.name_in.Goals as goal
 
 pub part-requires : goal.part-requires
 part-requires c = record {
-      named = c.requires.named.0;
-      lists = c.requires.lists;
-      scratch = (c.requires.scratch, c.requires.named.1.preds-long);
-    }
+  named = c.requires.named.0;
+  lists = c.requires.lists;
+  scratch = (c.requires.scratch, c.requires.named.1.preds-long);
+}
 
 pub name-requires : goal.name-requires
 name-requires c =

@@ -1,9 +1,7 @@
-use borrow.Author.Rules.{rules}
 use mathlib.Core.Path.{sym}
 use lib.ListN.{length, take, replicate}
 use Rattle.rules.specs.Sizes.{rows_most}
 use Rattle.parting.proofs.PartLaws.{zeros-front, to-name}
-use borrow.Enum.Refused.{opened}
 use Rattle.parting.proofs.name_many.Goals as goal
 
 pub slice_bounds-name_in-end : goal.slice_bounds-name_in-end

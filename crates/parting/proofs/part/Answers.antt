@@ -1,7 +1,5 @@
-use borrow.Author.Rules.{rules}
 use mathlib.Core.Path.{◌∙◌}
 use Rattle.parting.proofs.PartLaws.{to-settle, settled_at}
-use borrow.Enum.Refused.{opened}
 use Rattle.parting.proofs.part.Goals as goal
 
 pub settle-requires : goal.settle-requires

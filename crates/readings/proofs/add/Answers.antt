@@ -1,7 +1,5 @@
 use native.Mathlib.Omega.{arith}
-use borrow.Author.Rules.{rules}
 use lib.ListN.{length-take}
-use borrow.Enum.Refused.{opened}
 use Rattle.readings.proofs.add.Goals as goal
 
 -- `add`

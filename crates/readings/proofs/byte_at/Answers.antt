@@ -1,8 +1,6 @@
 use mathlib.Core.Logic.{⊎_elim}
 use native.Mathlib.Omega.{arith}
-use borrow.Author.Rules.{rules}
 use Rattle.readings.proofs.LineLaws.{escaped, plain}
-use borrow.Enum.Refused.{opened}
 use Rattle.readings.proofs.byte_at.Goals as goal
 
 -- `byte_at`

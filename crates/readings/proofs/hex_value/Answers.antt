@@ -1,7 +1,5 @@
 use native.Mathlib.Omega.{arith}
-use borrow.Author.Rules.{rules}
 use Rattle.readings.proofs.LineLaws.{digit_value, upper-value, lower-value, no_value}
-use borrow.Enum.Refused.{opened}
 use Rattle.readings.proofs.hex_value.Goals as goal
 
 -- `hex_value`

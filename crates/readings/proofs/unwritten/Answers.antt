@@ -1,9 +1,7 @@
-use mathlib.Core.Path.{◌≡◌, refl}
-use Prim.Native.Nat.{◌-◌}
+use mathlib.Core.Path.{refl}
 use native.Mathlib.Omega.{arith}
-use lib.ListN.{length, length-set}
-use Rattle.readings.proofs.LineLaws.{Copied, copied, all-copied}
-use borrow.Enum.Refused.{opened}
+use lib.ListN.{length-set}
+use Rattle.readings.proofs.LineLaws.{copied, all-copied}
 use Rattle.readings.proofs.unwritten.Goals as goal
 
 pub loop-at-init : goal.loop-at-init

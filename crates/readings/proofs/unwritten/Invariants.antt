@@ -1,9 +1,7 @@
-use mathlib.Core.Path.{◌≡◌, refl}
+use mathlib.Core.Path.{◌≡◌}
 use Prim.Native.Nat.{◌-◌}
-use native.Mathlib.Omega.{arith}
-use lib.ListN.{length, length-set}
-use Rattle.readings.proofs.LineLaws.{Copied, copied, all-copied}
-use borrow.Enum.Refused.{opened}
+use lib.ListN.{length}
+use Rattle.readings.proofs.LineLaws.{Copied}
 use Rattle.readings.proofs.unwritten.Given as goal
 
 -- `unwritten`

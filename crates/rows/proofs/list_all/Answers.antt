@@ -1,15 +1,12 @@
-use borrow.Author.Rules.{rules}
 use mathlib.Core.Path.{◌≡◌, refl, sym, ap, ◌∙◌}
 use mathlib.Core.List.{List, ◌++◌}
-use Prim.Native.Nat.{ℕ, ◌+◌, ◌-◌, ◌/◌, ◌≤◌}
+use Prim.Native.Nat.{ℕ, ◌+◌, ◌/◌, ◌≤◌}
 use native.Mathlib.Omega.{arith}
 use lib.ListN.{length, take, drop, replicate}
 use lib.Seq.{length-take-le, length_front, take_at}
 use Rattle.rules.specs.Sizes.{words_a_row}
-use Rattle.rows.specs.Listing.{ListedTo}
 use Rattle.rows.proofs.RowByRow.{book-start, listed_start, listed-end}
 use Rattle.rows.proofs.Listable.{rows_fit}
-use borrow.Enum.Refused.{opened}
 use Rattle.rows.proofs.list_all.Goals as goal
 
 -- the front of words that are as many as a row's
@@ -55,7 +52,7 @@ list_row-requires c =
     let args = c.args in
     let e : length (take ((length args.kind.now + 63) / 64) c.loop-q.set) ≡ (length args.kind.now + 63) / 64 = front c.loop-q.set c.loop-q.invariant.0 c.requires.0.short in
     let t : take ((length args.kind.now + 63) / 64) (c.put_tails.new.set ++ drop ((length args.kind.now + 63) / 64) (replicate {A = ℕ} 32 0)) ≡ c.put_tails.new.set = take_at c.put_tails.new.set (drop ((length args.kind.now + 63) / 64) (replicate {A = ℕ} 32 0)) ((length args.kind.now + 63) / 64) (c.tails-2-1.given ∙ front (replicate {A = ℕ} 32 0) refl c.requires.0.short) in
-    let f = (rows_fit args.cells.now args.marks.now args.sets.now c.requires.1.1).1 in  record {
+    let f = (rows_fit args.cells.now args.marks.now args.sets.now c.requires.1.1).1 in record {
       given = (rw e c.requires.0, (front c.loop-q.pending c.loop-q.invariant.1.0 c.requires.0.short ∙ sym e, (ap length t ∙ c.tails-2-1.given ∙ front (replicate {A = ℕ} 32 0) refl c.requires.0.short ∙ sym e, rw t c.put_tails.ensures.1)));
       listed_to = (rw e c.loop-q.invariant.1.1.1.1.1, (c.loop-q-test.true, record { cells-long = omega (arith, f.cells-long, c.loop-q.invariant.1.1.0); marks-long = omega (arith, f.marks-long, c.loop-q.invariant.1.1.1.0) }));
     }
@@ -77,8 +74,7 @@ loop-q-smaller c =
 pub loop-q-preserved : goal.loop-q-preserved
 loop-q-preserved c =
     let args = c.args in
-    let e : length (take ((length args.kind.now + 63) / 64) c.loop-q.set) ≡ (length args.kind.now + 63) / 64 = front c.loop-q.set c.loop-q.invariant.0 c.requires.0.short in
-    (
+    let e : length (take ((length args.kind.now + 63) / 64) c.loop-q.set) ≡ (length args.kind.now + 63) / 64 = front c.loop-q.set c.loop-q.invariant.0 c.requires.0.short in (
       length_front c.loop-q.set c.list_row.new.set ((length args.kind.now + 63) / 64) c.set-in-loop-q-1.given ∙ c.loop-q.invariant.0,
       (
         length_front c.loop-q.pending c.list_row.new.pending ((length args.kind.now + 63) / 64) c.pending-in-loop-q-1.given ∙ c.loop-q.invariant.1.0,

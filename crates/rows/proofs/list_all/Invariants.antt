@@ -1,15 +1,8 @@
-use borrow.Author.Rules.{rules}
-use mathlib.Core.Path.{◌≡◌, refl, sym, ap, ◌∙◌}
-use mathlib.Core.List.{List, ◌++◌}
-use Prim.Native.Nat.{ℕ, ◌+◌, ◌-◌, ◌/◌, ◌≤◌}
-use native.Mathlib.Omega.{arith}
-use lib.ListN.{length, take, drop, replicate}
-use lib.Seq.{length-take-le, length_front, take_at}
+use mathlib.Core.Path.{◌≡◌}
+use Prim.Native.Nat.{◌+◌, ◌-◌, ◌/◌}
+use lib.ListN.{length}
 use Rattle.rules.specs.Sizes.{words_a_row}
 use Rattle.rows.specs.Listing.{ListedTo}
-use Rattle.rows.proofs.RowByRow.{book-start, listed_start, listed-end}
-use Rattle.rows.proofs.Listable.{rows_fit}
-use borrow.Enum.Refused.{opened}
 use Rattle.rows.proofs.list_all.Given as goal
 
 abbrev pub invariant-loop-q : goal.invariant-loop-q

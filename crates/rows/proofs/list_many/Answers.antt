@@ -1,4 +1,3 @@
-use borrow.Author.Rules.{rules}
 use mathlib.Core.Path.{sym, ap}
 use mathlib.Core.List.{List}
 use Prim.Native.Nat.{ℕ, ◌*◌}
@@ -6,7 +5,6 @@ use native.Mathlib.Omega.{arith}
 use lib.ListN.{replicate, length-replicate}
 use Rattle.rules.specs.Sizes.{words_a_row}
 use Rattle.rows.proofs.Listable.{listing-given, listing-tree}
-use borrow.Enum.Refused.{opened}
 use Rattle.rows.proofs.list_many.Goals as goal
 
 pub put_nodes-requires : goal.put_nodes-requires

@@ -1,10 +1,8 @@
-use borrow.Author.Rules.{rules}
 use mathlib.Core.Path.{◌≡◌, sym, ◌∙◌}
 use Prim.Native.Nat.{◌+◌, ◌*◌, ◌-◌}
 use native.Mathlib.Omega.{arith}
 use borrow.Rule.Slice.PartMut.{mid_len}
 use Rattle.rows.proofs.RowByRow.{taken-lt, nodes-lt, nodes-full, listed-full, listed_more}
-use borrow.Enum.Refused.{opened}
 use Rattle.rows.proofs.list_row.Goals as goal
 
 pub take_up-requires : goal.take_up-requires
@@ -27,9 +25,9 @@ overflow_cast-kind c =
 
 pub mark_of-requires : goal.mark_of-requires
 mark_of-requires c = record {
-      nodes = (c.requires.given.0.nodes, (record { long = omega (arith, c.take_up.ensures.0, c.requires.given.0.wide); short = omega (arith, c.take_up.ensures.0, c.requires.given.0.short) }, (c.take_up.ensures.1.0 ∙ sym c.take_up.ensures.0, (c.requires.given.1.1.0 ∙ sym c.take_up.ensures.0, (omega (arith, c.requires.given.0.some), rw c.take_up.ensures.1.1 (nodes-lt c.requires.given.0 c.requires.listed_to.0 c.requires.listed_to.1.0))))));
-      tails = (c.requires.given.1.1.1, rw c.take_up.ensures.1.1 (nodes-full c.requires.given.0 c.requires.listed_to.0 c.requires.listed_to.1.0));
-    }
+  nodes = (c.requires.given.0.nodes, (record { long = omega (arith, c.take_up.ensures.0, c.requires.given.0.wide); short = omega (arith, c.take_up.ensures.0, c.requires.given.0.short) }, (c.take_up.ensures.1.0 ∙ sym c.take_up.ensures.0, (c.requires.given.1.1.0 ∙ sym c.take_up.ensures.0, (omega (arith, c.requires.given.0.some), rw c.take_up.ensures.1.1 (nodes-lt c.requires.given.0 c.requires.listed_to.0 c.requires.listed_to.1.0))))));
+  tails = (c.requires.given.1.1.1, rw c.take_up.ensures.1.1 (nodes-full c.requires.given.0 c.requires.listed_to.0 c.requires.listed_to.1.0));
+}
 
 pub bounds-marks-q : goal.bounds-marks-q
 bounds-marks-q c =

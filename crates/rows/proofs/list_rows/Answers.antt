@@ -2,7 +2,6 @@ use borrow.Author.Rules.{rules}
 use mathlib.Core.Path.{refl}
 use native.Mathlib.Omega.{arith}
 use Rattle.rows.proofs.Listable.{room-is, two-rows}
-use borrow.Enum.Refused.{opened}
 use Rattle.rows.proofs.list_rows.Goals as goal
 
 pub returns-then-room-lt2 : goal.returns-then-room-lt2
@@ -18,7 +17,7 @@ make_runs-runs-requires c =
 pub list_few-requires : goal.list_few-requires
 list_few-requires c =
     let args = c.args in
-    let pre = c.requires in  record {
+    let pre = c.requires in record {
       some_nodes = (pre, (c.make_runs-runs.ensures, omega (arith, c.if-runs-le-FEW.true)));
       le_room = (c.if-room-lt2.false, room-is args.cells.now args.marks.now args.sets.now c.least.ensures c.least-2.ensures c.least-room.ensures);
     }
@@ -31,7 +30,7 @@ pub list_many-requires : goal.list_many-requires
 list_many-requires c =
     let args = c.args in
     let pre = c.requires in
- record {
+    record {
       some_nodes = (pre, c.make_runs-runs.ensures);
       le_room = (c.if-room-lt2.false, room-is args.cells.now args.marks.now args.sets.now c.least.ensures c.least-2.ensures c.least-room.ensures);
     }

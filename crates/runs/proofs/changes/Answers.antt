@@ -1,6 +1,4 @@
-use borrow.Author.Rules.{rules}
 use Rattle.runs.proofs.Parting.{changes-are}
-use borrow.Enum.Refused.{opened}
 use Rattle.runs.proofs.changes.Goals as goal
 
 pub returns : goal.returns

@@ -1,13 +1,11 @@
 use borrow.Author.Rules.{rules}
 use mathlib.Core.Path.{◌≡◌, sym, ◌∙◌}
 use mathlib.Core.Logic.{⊎_elim}
-use Prim.Native.Nat.{◌-◌, ◌≤◌}
 use native.Mathlib.Omega.{arith}
-use lib.ListN.{length, set, length-set}
+use lib.ListN.{length-set}
 use lib.Seq.{set-set}
 use Rattle.rules.proofs.Tests.{is_false}
-use Rattle.runs.proofs.Parting.{RunsTo, runs-one, runs-long, runs-next, runs-longer, runs-all}
-use borrow.Enum.Refused.{opened}
+use Rattle.runs.proofs.Parting.{runs-one, runs-long, runs-next, runs-longer, runs-all}
 use Rattle.runs.proofs.list_runs.Goals as goal
 
 pub loop-b-init : goal.loop-b-init

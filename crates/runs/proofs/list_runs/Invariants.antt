@@ -1,13 +1,7 @@
-use borrow.Author.Rules.{rules}
-use mathlib.Core.Path.{◌≡◌, sym, ◌∙◌}
-use mathlib.Core.Logic.{⊎_elim}
+use mathlib.Core.Path.{◌≡◌}
 use Prim.Native.Nat.{◌-◌, ◌≤◌}
-use native.Mathlib.Omega.{arith}
-use lib.ListN.{length, set, length-set}
-use lib.Seq.{set-set}
-use Rattle.rules.proofs.Tests.{is_false}
-use Rattle.runs.proofs.Parting.{RunsTo, runs-one, runs-long, runs-next, runs-longer, runs-all}
-use borrow.Enum.Refused.{opened}
+use lib.ListN.{length, set}
+use Rattle.runs.proofs.Parting.{RunsTo}
 use Rattle.runs.proofs.list_runs.Given as goal
 
 abbrev pub invariant-loop-b : goal.invariant-loop-b

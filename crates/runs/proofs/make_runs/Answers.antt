@@ -1,10 +1,8 @@
-use borrow.Author.Rules.{rules}
 use mathlib.Core.Path.{ap, ◌∙◌}
 use mathlib.Core.List.{List}
 use Prim.Native.Nat.{ℕ}
 use lib.ListN.{length, get_or, length-replicate}
 use Rattle.runs.proofs.Masks.{parted-into}
-use borrow.Enum.Refused.{opened}
 use Rattle.runs.proofs.make_runs.Goals as goal
 
 pub list_runs-requires : goal.list_runs-requires

@@ -1,7 +1,5 @@
-use borrow.Author.Rules.{rules}
 use native.Mathlib.Omega.{arith}
 use Rattle.runs.proofs.Parting.{parted-by}
-use borrow.Enum.Refused.{opened}
 use Rattle.runs.proofs.part_by.Goals as goal
 
 pub returns : goal.returns

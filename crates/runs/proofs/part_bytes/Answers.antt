@@ -1,12 +1,8 @@
 use borrow.Author.Rules.{rules}
-use mathlib.Core.Path.{◌≡◌, ◌∙◌}
+use mathlib.Core.Path.{◌∙◌}
 use mathlib.Core.Logic.{⊎_elim}
-use Prim.Native.Nat.{◌-◌, ◌≤◌}
 use native.Mathlib.Omega.{arith}
-use lib.ListN.{length}
-use Rattle.runs.specs.Runs.{PartedTo}
 use Rattle.runs.proofs.Parting.{parted-in, parted-out}
-use borrow.Enum.Refused.{opened}
 use Rattle.runs.proofs.part_bytes.Goals as goal
 
 pub loop-u-init : goal.loop-u-init

@@ -1,12 +1,7 @@
-use borrow.Author.Rules.{rules}
-use mathlib.Core.Path.{◌≡◌, ◌∙◌}
-use mathlib.Core.Logic.{⊎_elim}
+use mathlib.Core.Path.{◌≡◌}
 use Prim.Native.Nat.{◌-◌, ◌≤◌}
-use native.Mathlib.Omega.{arith}
 use lib.ListN.{length}
 use Rattle.runs.specs.Runs.{PartedTo}
-use Rattle.runs.proofs.Parting.{parted-in, parted-out}
-use borrow.Enum.Refused.{opened}
 use Rattle.runs.proofs.part_bytes.Given as goal
 
 abbrev pub invariant-loop-u : goal.invariant-loop-u

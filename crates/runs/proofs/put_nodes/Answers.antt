@@ -1,12 +1,9 @@
 use borrow.Author.Rules.{rules}
 use mathlib.Core.Path.{◌≡◌, ◌∙◌}
 use mathlib.Core.Logic.{⊎_elim}
-use Prim.Native.Nat.{◌-◌, ◌≤◌}
 use native.Mathlib.Omega.{arith}
 use lib.ListN.{length}
-use Rattle.runs.specs.Runs.{MaskedTo}
 use Rattle.runs.proofs.Masks.{masked-none, masked-in, masked-out, runs-are}
-use borrow.Enum.Refused.{opened}
 use Rattle.runs.proofs.put_nodes.Goals as goal
 
 pub loop-u-init : goal.loop-u-init

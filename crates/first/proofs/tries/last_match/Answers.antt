@@ -1,16 +1,10 @@
-use borrow.Author.Rules.{rules}
-use mathlib.Core.Path.{◌≡◌, ap, sym, ◌∙◌}
+use mathlib.Core.Path.{ap, sym, ◌∙◌}
 use mathlib.Core.Bool.{true, false}
 use mathlib.Core.Logic.{⊎_elim}
-use Prim.Native.Nat.{ℕ, ◌-◌, ◌≤◌}
 use native.Mathlib.Omega.{arith}
-use lib.ListN.{length}
-use Rattle.rules.specs.Table.{WellFormed, begins}
-use Rattle.table.specs.Lent.{table_of}
 use Rattle.ahead.specs.Ahead.{lent}
 use Rattle.passing.specs.Run.{found_of}
 use Rattle.first.proofs.TriesLaws.{Ending, ending-none, ending-more, ending-dead, ending-end}
-use borrow.Enum.Refused.{opened}
 use Rattle.first.proofs.tries.last_match.Goals as goal
 use Rattle.first.proofs.tries.last_match.Goals.{At-loop-p}
 

@@ -1,16 +1,14 @@
-use borrow.Author.Rules.{rules}
 use mathlib.Core.Path.{◌≡◌, refl, ap, sym, ◌∙◌}
 use mathlib.Core.Bool.{true≢false}
-use Prim.Native.Nat.{ℕ, ◌+◌, ◌*◌, ◌-◌, ◌≤◌}
+use Prim.Native.Nat.{ℕ, ◌+◌}
 use native.Mathlib.Omega.{arith}
-use lib.ListN.{length, drop}
+use lib.ListN.{drop}
 use Rattle.rules.specs.Table.{first}
 use Rattle.rules.proofs.TableLaws.{read_none}
 use Rattle.ahead.specs.Ahead.{lent, ahead, is_start}
 use Rattle.passing.specs.Run.{first_from}
 use Rattle.ahead.proofs.AheadLaws.{flags-end}
 use Rattle.first.proofs.TriesLaws.{first-all, first-skip}
-use borrow.Enum.Refused.{opened}
 use Rattle.first.proofs.tries.try_each.Goals as goal
 use Rattle.first.proofs.tries.try_each.Goals.{After-look-walk, Else-walk}
 
@@ -24,7 +22,7 @@ answer c =
 passed : (c : Else-walk) → let A = c.args in let w = lent A.known A.marks.now A.cells.now in first w A.text.now ≡ first_from w A.text.now (c.loop-s.s + 1)
 passed c =
     let A = c.args in
-    c.loop-s.invariant.1.1.1 ∙ first-skip (lent A.known A.marks.now A.cells.now) A.text.now c.loop-s-test.true 
+    c.loop-s.invariant.1.1.1 ∙ first-skip (lent A.known A.marks.now A.cells.now) A.text.now c.loop-s-test.true
     (sym (c.look-walk.ensures.answer ∙ ap (λ (q : ℕ). ahead (lent A.known A.marks.now A.cells.now) q (drop c.loop-s.s A.text.now)) (c.begin-q.ensures A.marks.now A.cells.now)) ∙ c.if-walk.false)
 
 pub flags_at_end-flags-requires : goal.flags_at_end-flags-requires
@@ -34,15 +32,15 @@ pub loop-s-init : goal.loop-s-init
 loop-s-init c = (refl, (omega arith, (omega arith, first-all _ _)))
 
 pub look-walk-requires : goal.look-walk-requires
-look-walk-requires c = let A = c.args in  record {
-      ready = c.requires;
-      stretch = record {
+look-walk-requires c = let A = c.args in record {
+  ready = c.requires;
+  stretch = record {
     row = (read_none c.requires.well.formed A.text.now c.loop-s.s c.loop-s-test.true (c.begin-q.ensures A.marks.now A.cells.now)).row;
     forward = c.loop-s-test.true;
     inside = omega arith;
     flagged = flags-end A.text.now c.flags_at_end-flags.ensures;
   };
-    }
+}
 
 pub returns-then-walk : goal.returns-then-walk
 returns-then-walk c = record { past = c.loop-s.invariant.1.1.1; within = omega arith; hit = λ _. (c.loop-s-test.true, sym (answer (goal.at.returns-then-walk c).After-look-walk) ∙ c.if-walk.true) }

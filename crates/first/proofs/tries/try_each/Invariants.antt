@@ -1,16 +1,9 @@
-use borrow.Author.Rules.{rules}
-use mathlib.Core.Path.{◌≡◌, refl, ap, sym, ◌∙◌}
-use mathlib.Core.Bool.{true≢false}
-use Prim.Native.Nat.{ℕ, ◌+◌, ◌*◌, ◌-◌, ◌≤◌}
-use native.Mathlib.Omega.{arith}
-use lib.ListN.{length, drop}
+use mathlib.Core.Path.{◌≡◌}
+use Prim.Native.Nat.{◌+◌, ◌*◌, ◌-◌, ◌≤◌}
+use lib.ListN.{length}
 use Rattle.rules.specs.Table.{first}
-use Rattle.rules.proofs.TableLaws.{read_none}
-use Rattle.ahead.specs.Ahead.{lent, ahead, is_start}
+use Rattle.ahead.specs.Ahead.{lent}
 use Rattle.passing.specs.Run.{first_from}
-use Rattle.ahead.proofs.AheadLaws.{flags-end}
-use Rattle.first.proofs.TriesLaws.{first-all, first-skip}
-use borrow.Enum.Refused.{opened}
 use Rattle.first.proofs.tries.try_each.Given as goal
 
 abbrev pub invariant-loop-s : goal.invariant-loop-s
