@@ -10,7 +10,6 @@ use Rattle.rules.specs.Nodes.{node_count}
 use Rattle.rules.specs.SetRows.{row_count}
 use Rattle.rules.specs.Compiled.{compiled}
 use Rattle.rules.specs.Reader.{got, bad, read}
-use Rattle.rules.specs.Table.{Table}
 use Rattle.rules.specs.Answers.{refusal, refused, given}
 use Rattle.rules.specs.Compile.{Room, rows_for, limited, drawn}
 use Rattle.rules.specs.Demands.{Gives}

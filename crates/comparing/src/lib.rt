@@ -1,4 +1,6 @@
 // Whether two patterns are the same: two lines of an input, each compiled in room for 1,024 rows, and what is said of them.
+#![tactic(auto)]
+
 ghost use Rattle.std.specs.Prelude.{◌≡◌, ◌*◌, length};
 ghost use Rattle.rules.specs.Sizes.{rows_most, words_a_row};
 ghost use Rattle.rules.specs.Answers.{given};

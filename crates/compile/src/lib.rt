@@ -1,4 +1,6 @@
 // Compiling: any pattern, and any lent cells, marks and set words, to the pattern's drawing or the refusal that is due.
+#![tactic(auto)]
+
 ghost use Rattle.std.specs.Prelude.{◌≡◌, ◌≤◌, length};
 ghost use Rattle.reader.specs.Reading.{ProgramRoom};
 ghost use Rattle.rows.specs.Rows.{SomeNodes, room};

@@ -1,4 +1,6 @@
 // Merging in place: rows that no further bytes and end position tell apart become one, named by the least.
+#![tactic(auto)]
+
 ghost use Rattle.std.specs.Prelude.{◌≡◌, length, take};
 ghost use Rattle.rules.specs.Grid.{Grid};
 ghost use Rattle.rules.specs.Compiled.{merged};

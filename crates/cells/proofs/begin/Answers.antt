@@ -7,8 +7,6 @@ use Rattle.nodesets.specs.NodeSets.{mask_of}
 use Rattle.cells.specs.Cells.{taken_at}
 use Rattle.nodesets.proofs.NodeSetLaws.{mask-none}
 use Rattle.cells.proofs.RowLaws.{seeds-first, begin-later}
-use borrow.Author.Rules.{rules}
-use borrow.Enum.Refused.{opened}
 use Rattle.cells.proofs.begin.Goals as goal
 
 pub put_in-requires : goal.put_in-requires

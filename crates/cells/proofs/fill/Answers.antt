@@ -1,4 +1,3 @@
-use borrow.Author.Rules.{rules}
 use mathlib.Core.Path.{sym}
 use Prim.Native.Nat.{ℕ}
 use native.Mathlib.Omega.{arith}
@@ -6,7 +5,6 @@ use lib.ListN.{length, replicate, length-replicate}
 use lib.Seq.{length-take-le}
 use Rattle.rules.specs.Sizes.{words_a_row}
 use Rattle.cells.proofs.Filling.{zeros-front}
-use borrow.Enum.Refused.{opened}
 use Rattle.cells.proofs.fill.Goals as goal
 
 pub slice_bounds-fill_runs-end : goal.slice_bounds-fill_runs-end
@@ -17,7 +15,7 @@ slice_bounds-fill_runs-end c =
 pub fill_runs-requires : goal.fill_runs-requires
 fill_runs-requires c =
     let pre = c.requires in
-    let args = c.args in  record {
+    let args = c.args in record {
       row_len = pre;
       within = (
         record { low = c.used_end-to.ensures.0; high = c.used_end-to.ensures.1.0; before = c.first_used-from.ensures.1; after = c.used_end-to.ensures.1.1 },

@@ -1,13 +1,12 @@
 use borrow.Author.Rules.{rules}
-use Prim.Native.Nat.{ℕ, ◌-◌, ◌≤◌}
+use Prim.Native.Nat.{ℕ}
 use mathlib.Core.Path.{◌≡◌, sym, ap, ◌∙◌, subst}
 use native.Mathlib.Omega.{arith}
 use lib.ListN.{length, get_or, length-replicate}
 use Rattle.nodesets.specs.NodeSets.{row_words}
 use Rattle.nodesets.proofs.NodeSetLaws.{row-long}
-use Rattle.cells.specs.Cells.{FilledTo, TakenBefore}
+use Rattle.cells.specs.Cells.{FilledTo}
 use Rattle.cells.proofs.Filling.{taken-first, taken_more, filled_none, filled-over, filled_more}
-use borrow.Enum.Refused.{opened}
 use Rattle.cells.proofs.fill_runs.Goals as goal
 
 pub bounds-heads-1024 : goal.bounds-heads-1024
@@ -21,7 +20,7 @@ loop-k-init c =
 pub take_run-requires : goal.take_run-requires
 take_run-requires c =
     let loop-test = c.loop-k-test in
- record {
+    record {
       set_len_bound = (c.requires.row_len.1.0, (omega (arith, c.requires.row_len.1.1.1.0, loop-test), c.loop-k.invariant.1.1.0.book));
       within = (c.requires.within.0, c.loop-k.invariant.1.1.1);
     }

@@ -1,13 +1,7 @@
-use borrow.Author.Rules.{rules}
-use Prim.Native.Nat.{ℕ, ◌-◌, ◌≤◌}
-use mathlib.Core.Path.{◌≡◌, sym, ap, ◌∙◌, subst}
-use native.Mathlib.Omega.{arith}
-use lib.ListN.{length, get_or, length-replicate}
-use Rattle.nodesets.specs.NodeSets.{row_words}
-use Rattle.nodesets.proofs.NodeSetLaws.{row-long}
+use Prim.Native.Nat.{◌-◌, ◌≤◌}
+use mathlib.Core.Path.{◌≡◌}
+use lib.ListN.{length, get_or}
 use Rattle.cells.specs.Cells.{FilledTo, TakenBefore}
-use Rattle.cells.proofs.Filling.{taken-first, taken_more, filled_none, filled-over, filled_more}
-use borrow.Enum.Refused.{opened}
 use Rattle.cells.proofs.fill_runs.Given as goal
 
 abbrev pub invariant-loop-k : goal.invariant-loop-k

@@ -1,11 +1,10 @@
 use borrow.Author.Rules.{rules}
 use mathlib.Core.Path.{◌≡◌, refl, ap, ◌∙◌}
 use mathlib.Core.List.{List, ◌++◌, append-nil}
-use Prim.Native.Nat.{ℕ, ◌-◌, ◌≤◌}
+use Prim.Native.Nat.{ℕ}
 use native.Mathlib.Omega.{arith}
 use borrow.Author.Fill.{fill_more}
-use lib.ListN.{length, set, drop, replicate, length-set, drop_of_length-le}
-use borrow.Enum.Refused.{opened}
+use lib.ListN.{length, set, replicate, length-set, drop_of_length-le}
 use Rattle.cells.proofs.spread.Goals as goal
 
 pub loop-i-init : goal.loop-i-init

@@ -1,10 +1,8 @@
-use borrow.Author.Rules.{rules}
 use mathlib.Core.Path.{ap, ◌∙◌}
 use Prim.Native.Nat.{ℕ, ◌+◌, ◌-◌}
 use borrow.Rule.Slice.PartMut.{put_mid, mid_len}
 use lib.ListN.{get_or, replicate}
 use native.Mathlib.Omega.{arith}
-use borrow.Enum.Refused.{opened}
 use Rattle.cells.proofs.spread_run.Goals as goal
 
 pub overflow_cast-from : goal.overflow_cast-from

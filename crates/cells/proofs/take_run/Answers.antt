@@ -1,11 +1,9 @@
-use borrow.Author.Rules.{rules}
 use mathlib.Core.Path.{◌≡◌, ap, ◌∙◌}
 use native.Mathlib.Omega.{arith}
 use lib.ListN.{length}
 use Rattle.nodesets.specs.NodeSets.{Within, meets}
 use Rattle.nodesets.proofs.NodeSetLaws.{length_meets, meets-within, row-part, part-long}
 use Rattle.cells.proofs.Filling.{taken-again}
-use borrow.Enum.Refused.{opened}
 use Rattle.cells.proofs.take_run.Goals as goal
 
 pub meet_again-requires : goal.meet_again-requires
@@ -15,8 +13,7 @@ meet_again-requires c =
 
 pub returns-then-before-ne0 : goal.returns-then-before-ne0
 returns-then-before-ne0 c =
-    let args = c.args in
-    (
+    let args = c.args in (
       c.meet_again.ensures.0 ∙ ap (meets args.set.now) (row-part args.masks.now args.k (length args.set.now)),
       taken-again c.requires.set_len_bound.1.1 c.requires.within.1 (omega arith)
           c.meet_again.ensures.1 c.if-meet_again.true,

@@ -13,8 +13,6 @@ use Rattle.nodesets.specs.NodeSets.{mask_of}
 use Rattle.closing.specs.Closing.{closing}
 use Rattle.cells.specs.Cells.{taken_at, nodes_of}
 use Rattle.cells.proofs.RowLaws.{seeds-lt}
-use borrow.Author.Rules.{rules}
-use borrow.Enum.Refused.{opened}
 use Rattle.cells.proofs.take_up.Goals as goal
 
 pub begin-requires : goal.begin-requires
@@ -33,7 +31,7 @@ close-requires c =
     let args = c.args in
     let P = pre in
     let e = c.copy.ensures in
-    let s = seeds-lt (taken_at (length args.set.now) args.sets.now) args.q (length args.kind.now) P.1.1.1.0 P.1.1.1.1.1 in  record {
+    let s = seeds-lt (taken_at (length args.set.now) args.sets.now) args.q (length args.kind.now) P.1.1.1.0 P.1.1.1.1.1 in record {
       nodes = (P.0, (record { long = omega (arith, P.1.0.long, c.begin.ensures.0); short = omega (arith, P.1.0.short, c.begin.ensures.0) }, (ap length e, (rw c.begin.ensures.1 s, rw (e, c.begin.ensures.1) s))));
       by_index = ((λ v h. subst (λ (l : List ℕ). T (has (mask_of l) v)) e h), λ x m k f. inl (subst (λ (l : List ℕ). T (has (mask_of l) x.from)) (sym e) f));
     }

@@ -1,4 +1,3 @@
-use borrow.Author.Rules.{rules}
 use mathlib.Core.Path.{◌≡◌, sym, ap, subst, ◌∙◌}
 use mathlib.Core.List.{List}
 use Prim.Native.Nat.{ℕ, ◌+◌, ◌-◌}
@@ -9,7 +8,6 @@ use Rattle.findings.specs.declared.Finding.{Finding}
 use Rattle.comparing.specs.Lines.{line_end_in, line_of, second_of}
 use Rattle.comparing.specs.Comparison.{said_of_lines, comparison}
 use Rattle.comparing.proofs.LineLaws.{end-within, after-end, lines_long, lines_more, lines-one}
-use borrow.Enum.Refused.{opened}
 use Rattle.comparing.proofs.compare.Goals as goal
 use Rattle.comparing.proofs.compare.Goals.{Start}
 

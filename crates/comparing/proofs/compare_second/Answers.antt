@@ -1,10 +1,8 @@
-use borrow.Author.Rules.{rules}
 use mathlib.Core.Path.{sym, ap, ◌∙◌}
 use native.Mathlib.Omega.{arith}
 use lib.ListN.{length-take}
 use Rattle.comparing.specs.Comparison.{said_of_lines}
 use Rattle.comparing.proofs.LineLaws.{end-within, second-long, second-over, second_more}
-use borrow.Enum.Refused.{opened}
 use Rattle.comparing.proofs.compare_second.Goals as goal
 
 -- `compare_second` meets its contract: the three cases of a second line.

@@ -1,20 +1,18 @@
-use borrow.Author.Rules.{rules}
 use mathlib.Core.Path.{ap₂, ◌∙◌}
 use mathlib.Core.List.{List}
 use Prim.Native.Nat.{ℕ}
 use native.Mathlib.Omega.{arith}
 use Rattle.findings.specs.Said.{said_of_answers}
 use Rattle.comparing.proofs.Drawn.{drawn-in, holds-answer, drawn-all}
-use borrow.Enum.Refused.{opened}
 use Rattle.comparing.proofs.compare_within.Goals as goal
 use Rattle.comparing.proofs.compare_within.Goals.{After-compile-one, Start}
 
 -- `compare_within` meets its contract: each answer is what is drawn, and the second list of set words is as long as the first.
 pub judge-requires : goal.judge-requires
 judge-requires c = record {
-      holds_answer = holds-answer c.compile-one.result c.compile-one.ensures;
-      holds_answer_2 = holds-answer c.compile-other.result c.compile-other.ensures;
-    }
+  holds_answer = holds-answer c.compile-one.result c.compile-one.ensures;
+  holds_answer_2 = holds-answer c.compile-other.result c.compile-other.ensures;
+}
 
 pub returns : goal.returns
 returns c =

@@ -1,11 +1,6 @@
 use borrow.Author.Rules.{rules}
-use mathlib.Core.Path.{◌≡◌}
-use Prim.Native.Nat.{◌+◌, ◌-◌, ◌≤◌}
 use native.Mathlib.Omega.{arith}
-use lib.ListN.{length, drop}
-use Rattle.comparing.specs.Lines.{line_end_in}
 use Rattle.comparing.proofs.ByPlace.{end-here, end_later, end_none}
-use borrow.Enum.Refused.{opened}
 use Rattle.comparing.proofs.line_end.Goals as goal
 
 pub returns-then-text-at-eq10 : goal.returns-then-text-at-eq10

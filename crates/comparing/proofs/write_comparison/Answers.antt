@@ -1,11 +1,9 @@
-use borrow.Author.Rules.{rules}
 use mathlib.Core.Path.{ap, ◌∙◌}
 use mathlib.Core.List.{List}
 use Prim.Native.Nat.{ℕ}
 use Rattle.rules.specs.Answers.{given}
 use Rattle.writing.specs.Texts.{shown_in}
 use Rattle.writing.proofs.Answered.{written-shown}
-use borrow.Enum.Refused.{opened}
 use Rattle.comparing.proofs.write_comparison.Goals as goal
 
 -- `write_comparison` meets its contract: the text of what is found, and the answer for its length.

@@ -1,7 +1,5 @@
-use borrow.Author.Rules.{rules}
 use native.Mathlib.Omega.{arith}
 use Rattle.compile.proofs.OutcomeLaws.{kept-fits, outcome-of}
-use borrow.Enum.Refused.{opened}
 use Rattle.compile.proofs.compile.Goals as goal
 
 -- `compile`: what is drawn, and zeros past it.

@@ -1,6 +1,4 @@
-use borrow.Author.Rules.{rules}
 use native.Mathlib.Omega.{arith}
-use borrow.Enum.Refused.{opened}
 use Rattle.compile.proofs.draw.Goals as goal
 
 -- `draw`: the pattern is short, or takes the longer room.

@@ -1,6 +1,4 @@
-use borrow.Author.Rules.{rules}
 use Rattle.compile.proofs.StageLaws.{rows-refused, rows-mergeable, rows-drawn}
-use borrow.Enum.Refused.{opened}
 use Rattle.compile.proofs.draw_nodes.Goals as goal
 
 -- `draw_nodes`: the set rows are too many, or are listed and merged.

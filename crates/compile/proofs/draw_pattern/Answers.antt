@@ -1,7 +1,5 @@
-use borrow.Author.Rules.{rules}
 use native.Mathlib.Omega.{arith}
 use Rattle.compile.proofs.StageLaws.{pattern-refused, program-whole, program-drawn}
-use borrow.Enum.Refused.{opened}
 use Rattle.compile.proofs.draw_pattern.Goals as goal
 
 -- `draw_pattern`: the pattern is turned away, or its program is drawn.

@@ -1,4 +1,3 @@
-use borrow.Author.Rules.{rules}
 use Rattle.entries.specs.Entries.{Lists, lists}
 use Rattle.spine.specs.Parts.{Part}
 use Rattle.nodes.specs.Built.{HoldTree}

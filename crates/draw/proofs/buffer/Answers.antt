@@ -2,7 +2,6 @@ use mathlib.Core.Path.{sym}
 use Prim.Native.Nat.{ℕ}
 use lib.ListN.{length-replicate}
 use Rattle.draw.specs.Graphs.{graph_most}
-use borrow.Enum.Refused.{opened}
 use Rattle.draw.proofs.buffer.Goals as goal
 
 -- `buffer`

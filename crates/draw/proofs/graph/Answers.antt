@@ -1,4 +1,3 @@
-use borrow.Author.Rules.{rules}
 use mathlib.Core.Path.{◌≡◌, ap, ◌∙◌}
 use mathlib.Core.List.{List}
 use Prim.Native.Nat.{ℕ}
@@ -12,7 +11,6 @@ use Rattle.answers.specs.declared.Compiled.{Compiled}
 use Rattle.compile.proofs.OutcomesOnce.{outcome-is}
 use Rattle.dot.specs.Dot.{dot_of}
 use Rattle.draw.specs.Graphs.{graph_of}
-use borrow.Enum.Refused.{opened}
 use Rattle.draw.proofs.graph.Goals as goal
 
 -- `graph` meets its contract: what is shown of what was compiled is the graph.

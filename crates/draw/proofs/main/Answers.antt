@@ -1,5 +1,3 @@
-use borrow.Author.Rules.{rules}
-use borrow.Enum.Refused.{opened}
 use Rattle.draw.proofs.main.Goals as goal
 
 -- `main` is safe: the bytes that were read are a beginning of the buffer.

@@ -1,4 +1,3 @@
-use borrow.Author.Rules.{rules}
 use mathlib.Core.Path.{◌≡◌, ap, ◌∙◌}
 use mathlib.Core.List.{List}
 use Prim.Native.Nat.{ℕ}
@@ -13,7 +12,6 @@ use Rattle.compile.specs.Outcomes.{outcome_of, Compiles}
 use Rattle.answers.specs.declared.Compiled.{Compiled}
 use Rattle.compile.proofs.OutcomesOnce.{outcome-is}
 use Rattle.listing.proofs.Printed.{outcome-printed}
-use borrow.Enum.Refused.{opened}
 use Rattle.list.proofs.printed.Goals as goal
 
 -- `printed` meets its contract: what is shown of what was compiled is what is printed.

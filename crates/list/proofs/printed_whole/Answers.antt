@@ -1,9 +1,7 @@
-use borrow.Author.Rules.{rules}
 use native.Mathlib.Omega.{arith}
 use Rattle.rules.specs.Listing as rule
 use Rattle.writing.proofs.Answered.{whole-written, never-longer, never-refused}
 use Rattle.listing.proofs.Printed.{printed-most}
-use borrow.Enum.Refused.{opened}
 use Rattle.list.proofs.printed_whole.Goals as goal
 
 -- `printed_whole`

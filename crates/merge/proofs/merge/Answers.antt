@@ -5,7 +5,6 @@ use native.Mathlib.Omega.{arith}
 use lib.Seq.{length-take-le, length_front}
 use Rattle.grid.specs.Rows.{row_words}
 use Rattle.merge.proofs.FrontLaws.{zeros-front, front-grid, front-room, front-stands}
-use borrow.Enum.Refused.{opened}
 use Rattle.merge.proofs.merge.Goals as goal
 
 pub overflow_mul-n : goal.overflow_mul-n
@@ -74,12 +73,12 @@ merge_all-requires c =
 
 pub returns : goal.returns
 returns c = record {
-      cells_len_unchanged = (
-        length_front c.args.cells.now c.merge_all.new.cells (256 * c.args.rows) c.merge_all.auto.cells,
-        (
-          length_front c.args.marks.now c.merge_all.new.marks c.args.rows c.merge_all.auto.marks,
-          length_front c.args.sets.now c.merge_all.new.preds (row_words * c.args.rows) c.merge_all.auto.preds,
-        ),
-      );
-      stands = front-stands c.args.cells.now c.args.marks.now c.args.rows c.requires.cells-long c.requires.marks-long c.requires.grid c.merge_all.ensures;
-    }
+  cells_len_unchanged = (
+    length_front c.args.cells.now c.merge_all.new.cells (256 * c.args.rows) c.merge_all.auto.cells,
+    (
+      length_front c.args.marks.now c.merge_all.new.marks c.args.rows c.merge_all.auto.marks,
+      length_front c.args.sets.now c.merge_all.new.preds (row_words * c.args.rows) c.merge_all.auto.preds,
+    ),
+  );
+  stands = front-stands c.args.cells.now c.args.marks.now c.args.rows c.requires.cells-long c.requires.marks-long c.requires.grid c.merge_all.ensures;
+}

@@ -3,7 +3,6 @@ use native.Mathlib.Omega.{arith}
 use lib.ListN.{length}
 use Rattle.grid.proofs.GridLaws.{rows_in}
 use Rattle.merge.proofs.StandLaws.{two-rows, class-long, class-names, table-stands}
-use borrow.Enum.Refused.{opened}
 use Rattle.merge.proofs.merge_all.Goals as goal
 
 pub name-requires : goal.name-requires

@@ -1,11 +1,9 @@
-use borrow.Author.Rules.{rules}
 use Prim.Native.Nat.{◌≤◌}
 use native.Mathlib.Omega.{arith}
 use lib.ListN.{length}
 use Rattle.writing.proofs.Answered.{whole-written, never-longer, never-refused}
 use Rattle.comparing.specs.Comparison.{comparison}
 use Rattle.comparing.proofs.Beginnings.{comparison-most}
-use borrow.Enum.Refused.{opened}
 use Rattle.same.proofs.compared.Goals as goal
 use Rattle.same.proofs.compared.Goals.{Start}
 
@@ -19,9 +17,9 @@ returns-in-Written c = let the-parts = whole-written c.args.out.now _ (compariso
 pub returns-in-Longer : goal.returns-in-Longer
 returns-in-Longer c =
     let said = rw c.in-Longer.is at c.write_comparison-text.ensures in
- absurd (never-longer c.args.out.now _ (comparison c.args.input.now) (fits (goal.at.returns-in-Longer c).Start) c.in-Longer.field-0 said)
+    absurd (never-longer c.args.out.now _ (comparison c.args.input.now) (fits (goal.at.returns-in-Longer c).Start) c.in-Longer.field-0 said)
 
 pub returns-in-Refused : goal.returns-in-Refused
 returns-in-Refused c =
     let said = rw c.in-Refused.is at c.write_comparison-text.ensures in
- absurd (never-refused c.args.out.now _ (comparison c.args.input.now) (fits (goal.at.returns-in-Refused c).Start) c.in-Refused.field-0 said)
+    absurd (never-refused c.args.out.now _ (comparison c.args.input.now) (fits (goal.at.returns-in-Refused c).Start) c.in-Refused.field-0 said)

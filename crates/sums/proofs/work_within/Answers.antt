@@ -1,7 +1,5 @@
-use borrow.Author.Rules.{rules}
 use native.Mathlib.Omega.{arith}
 use lib.ListN.{length-take}
-use borrow.Enum.Refused.{opened}
 use Rattle.sums.proofs.work_within.Goals as goal
 
 pub slice_bounds-work-end-2 : goal.slice_bounds-work-end-2

@@ -1,5 +1,3 @@
-use borrow.Author.Rules.{rules}
-use borrow.Enum.Refused.{opened}
 use Rattle.jorvimest.proofs.compiling.jorvimest_compile.Goals as goal
 
 -- `jorvimest_compile` meets its contract: the numbers of the answer, and the room as compiling leaves it.

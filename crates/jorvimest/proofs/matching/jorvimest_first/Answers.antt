@@ -1,5 +1,3 @@
-use borrow.Author.Rules.{rules}
-use borrow.Enum.Refused.{opened}
 use Rattle.jorvimest.proofs.matching.jorvimest_first.Goals as goal
 
 -- `jorvimest_first` meets its contract: the code, the start and the end of the matcher's answer.

@@ -1,5 +1,3 @@
-use borrow.Author.Rules.{rules}
-use borrow.Enum.Refused.{opened}
 use Rattle.jorvimest.proofs.matching.jorvimest_longest.Goals as goal
 
 -- `jorvimest_longest` meets its contract: the code and the end of the matcher's answer.

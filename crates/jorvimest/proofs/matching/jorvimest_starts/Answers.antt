@@ -1,7 +1,5 @@
-use borrow.Author.Rules.{rules}
 use mathlib.Core.Path.{ap}
 use Rattle.rules.specs.Matchers.{Listed}
-use borrow.Enum.Refused.{opened}
 use Rattle.jorvimest.proofs.matching.jorvimest_starts.Goals as goal
 
 -- `jorvimest_starts` meets its contract: the code, the number and the list of the matcher's answer.

@@ -1,5 +1,3 @@
-use borrow.Author.Rules.{rules}
-use borrow.Enum.Refused.{opened}
 use Rattle.jorvimest.proofs.matching.jorvimest_whole.Goals as goal
 
 -- `jorvimest_whole` meets its contract: the code of the matcher's answer.

@@ -1,6 +1,4 @@
-use borrow.Author.Rules.{rules}
 use Rattle.jorvimest.proofs.TextLaws.{text-numbers}
-use borrow.Enum.Refused.{opened}
 use Rattle.jorvimest.proofs.texts.jorvimest_listing.Goals as goal
 
 -- `jorvimest_listing` meets its contract: the code, the length and the buffer of the listing.

@@ -1,11 +1,8 @@
-use borrow.Author.Rules.{rules}
 use mathlib.Core.Logic.{⊎_elim}
-use Prim.Native.Nat.{◌+◌, ◌*◌, ◌-◌}
+use Prim.Native.Nat.{◌+◌, ◌*◌}
 use native.Mathlib.Omega.{arith}
-use lib.ListN.{length}
 use Rattle.grid.proofs.GridLaws.{cell_in}
-use Rattle.merge.proofs.NumberLaws.{Down, down-none, count-le, down-skip, down-move}
-use borrow.Enum.Refused.{opened}
+use Rattle.merge.proofs.NumberLaws.{down-none, count-le, down-skip, down-move}
 use Rattle.merge.proofs.lower.move_down.Goals as goal
 
 pub loop-q-init : goal.loop-q-init
@@ -18,9 +15,9 @@ overflow_cast-l c =
 
 pub move_row-requires : goal.move_row-requires
 move_row-requires c = record {
-      q_in_bounds = (omega (arith, c.loop-q.invariant.cells-long, c.requires.0.long), (count-le c.loop-q.invariant (omega arith), omega (arith, c.requires.0.few)));
-      by_index = λ b lb. omega (arith, c.loop-q.invariant.cells_rest (256 * c.loop-q.q + b) (omega arith), cell_in c.requires.0 c.loop-q.q b (omega arith) lb, c.requires.1.1);
-    }
+  q_in_bounds = (omega (arith, c.loop-q.invariant.cells-long, c.requires.0.long), (count-le c.loop-q.invariant (omega arith), omega (arith, c.requires.0.few)));
+  by_index = λ b lb. omega (arith, c.loop-q.invariant.cells_rest (256 * c.loop-q.q + b) (omega arith), cell_in c.requires.0 c.loop-q.q b (omega arith) lb, c.requires.1.1);
+}
 
 pub bounds-marks-q : goal.bounds-marks-q
 bounds-marks-q c =

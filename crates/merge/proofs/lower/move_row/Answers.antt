@@ -1,10 +1,7 @@
 use borrow.Author.Rules.{rules}
 use mathlib.Core.Path.{◌≡◌}
-use Prim.Native.Nat.{◌≤◌, ◌-◌}
 use native.Mathlib.Omega.{arith}
-use Rattle.merge.specs.Numbers.{Moved}
 use Rattle.merge.proofs.NumberLaws.{moved_none, cell-read, moved_more}
-use borrow.Enum.Refused.{opened}
 use Rattle.merge.proofs.lower.move_row.Goals as goal
 
 pub loop-b-init : goal.loop-b-init
