@@ -3,4 +3,4 @@ use Rattle.compile.proofs.draw.Goals as goal
 
 -- `draw`: the pattern is short, or takes the longer room.
 pub draw_short-requires : goal.draw_short-requires
-draw_short-requires c = omega (arith, c.if-pattern-le-SHORT_MOST.true)
+draw_short-requires c = omega arith

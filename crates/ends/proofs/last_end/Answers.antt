@@ -9,23 +9,13 @@ use Rattle.rules.specs.Table.{Table, begins, fits, longest}
 use Rattle.rules.specs.Answers.{given}
 use Rattle.rules.proofs.TableLaws.{begins-first, begins-later, read_none, well-formed-test}
 use Rattle.kinds.specs.declared.Row.{Row}
-use Rattle.table.specs.Lent.{table_of}
 use Rattle.ahead.specs.Ahead.{mark}
 use Rattle.ends.specs.declared.Reading.{Reading}
 use Rattle.ends.specs.Readings.{end_of, FindsOn}
 use Rattle.ends.proofs.ReadingLaws.{at, finds-over, finds-end, longest-begun, end-found}
 use Rattle.ends.proofs.last_end.Goals as goal
-use Rattle.ends.proofs.last_end.Goals.{Joined-start-eq0, then-start-eq0, else-start-eq0}
 
 -- `last_end` meets its contract: what is longest is the last end from the start on, one at the text's end or the last that was found.
-begun : (c : Joined-start-eq0) → let A = c.args in c.if-start-eq0.q.0 ≡ begins (table_of A.rows A.head.0 A.marks.now A.cells.now) A.start
-begun c =
-    let A = c.args in
-    let w = table_of A.rows A.head.0 A.marks.now A.cells.now in
-    elim c.if-start-eq0.branch [
-      | then-start-eq0 x ↦ ap (λ (q : Row). q.0) x.q-is ∙ begins-first w A.start x.if-start-eq0.true
-      | else-start-eq0 x ↦ ap (λ (q : Row). q.0) x.q-is ∙ begins-later w A.start x.if-start-eq0.false
-    ]
 
 -- by whether a match ends at the text's end
 ended : {w : Table} {t : List ℕ} {q : Row} {s : ℕ} {most all : Reading} → s ≤ length t → q.0 ≡ begins w s
@@ -36,10 +26,16 @@ ended {w} {t} {q} {s} h g m a b e = longest-begun w t q s h g ∙ finds-end (fin
 pub read_most-most-requires : goal.read_most-most-requires
 read_most-most-requires c =
     let g = (well-formed-test _).0 c.requires.cells_value in
-    let b = begun (goal.at.read_most-most-requires c).Joined-start-eq0 in
     record {
       well_formed = g;
-      text_len_bound = (c.requires.text_len_bound.0, ((read_none g.formed c.args.text.now c.args.start c.requires.text_len_bound.1 b).row, c.requires.text_len_bound.1));
+      text_len_bound = (
+        c.requires.text_len_bound.0,
+        (
+          (read_none g.formed c.args.text.now c.args.start c.requires.text_len_bound.1
+              (grind (arith, begins-first, begins-later))).row,
+          c.requires.text_len_bound.1,
+        ),
+      );
     }
 
 pub find_ends-all-requires : goal.find_ends-all-requires
@@ -55,17 +51,14 @@ bounds-marks-last c =
 
 pub returns-then-ends_here : goal.returns-then-ends_here
 returns-then-ends_here c =
-    let b = begun (goal.at.returns-then-ends_here c).Joined-start-eq0 in
-    ap given (sym (ended c.requires.text_len_bound.1 b c.read_most-most.ensures c.find_ends-all.ensures true (sym c.ends_here.ensures ∙ c.if-ends_here.true)))
+    ap given (sym (ended c.requires.text_len_bound.1 (grind (arith, begins-first, begins-later)) c.read_most-most.ensures c.find_ends-all.ensures true (sym c.ends_here.ensures ∙ c.if-ends_here.true)))
 
 pub returns-then-all-eq0 : goal.returns-then-all-eq0
 returns-then-all-eq0 c =
-    let b = begun (goal.at.returns-then-all-eq0 c).Joined-start-eq0 in
-    let e = ended c.requires.text_len_bound.1 b c.read_most-most.ensures c.find_ends-all.ensures false (sym c.ends_here.ensures ∙ c.if-ends_here.false) in
+    let e = ended c.requires.text_len_bound.1 (grind (arith, begins-first, begins-later)) c.read_most-most.ensures c.find_ends-all.ensures false (sym c.ends_here.ensures ∙ c.if-ends_here.false) in
     ap given (ap end_of (sym c.if-all-eq0.true) ∙ sym e)
 
 pub returns : goal.returns
 returns c =
-    let b = begun (goal.at.returns c).Joined-start-eq0 in
-    let e = ended c.requires.text_len_bound.1 b c.read_most-most.ensures c.find_ends-all.ensures false (sym c.ends_here.ensures ∙ c.if-ends_here.false) in
+    let e = ended c.requires.text_len_bound.1 (grind (arith, begins-first, begins-later)) c.read_most-most.ensures c.find_ends-all.ensures false (sym c.ends_here.ensures ∙ c.if-ends_here.false) in
     ap given (end-found c.find_ends-all.result.found c.if-all-eq0.false ∙ sym e)

@@ -18,7 +18,7 @@ pub list_few-requires : goal.list_few-requires
 list_few-requires c =
     let args = c.args in
     let pre = c.requires in record {
-      some_nodes = (pre, (c.make_runs-runs.ensures, omega (arith, c.if-runs-le-FEW.true)));
+      some_nodes = (pre, (c.make_runs-runs.ensures, omega arith));
       le_room = (c.if-room-lt2.false, room-is args.cells.now args.marks.now args.sets.now c.least.ensures c.least-2.ensures c.least-room.ensures);
     }
 

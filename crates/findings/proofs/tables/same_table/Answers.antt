@@ -44,7 +44,7 @@ same_marks-requires c = simp length-take (omega arith)
 
 pub returns-then-not-same_marks : goal.returns-then-not-same_marks
 returns-then-not-same_marks c =
-    sym (marks-apart (first (goal.at.returns-then-not-same_marks c).Start) (second (goal.at.returns-then-not-same_marks c).Start) c.if-rows-rows2.false c.if-head-head2.false (sym (subst (Marks (goal.at.returns-then-not-same_marks c).Start _) c.if-rows-rows2.false c.same_marks.ensures) ∙ not-true _ c.if-not-same_marks.true-raw))
+    sym (marks-apart (first (goal.at.returns-then-not-same_marks c).Start) (second (goal.at.returns-then-not-same_marks c).Start) c.if-rows-rows2.false (omega arith) (sym (subst (Marks (goal.at.returns-then-not-same_marks c).Start _) c.if-rows-rows2.false c.same_marks.ensures) ∙ not-true _ c.if-not-same_marks.true-raw))
 
 pub slice_bounds-same_cells-end : goal.slice_bounds-same_cells-end
 slice_bounds-same_cells-end c = simp length-take (omega arith)
@@ -58,4 +58,4 @@ same_cells-requires c = simp length-take (omega arith)
 pub returns : goal.returns
 returns c =
     subst (Cells (goal.at.returns c).Start _) c.if-rows-rows2.false c.same_cells.ensures
-    ∙ sym (cells_left (first (goal.at.returns c).Start) (second (goal.at.returns c).Start) c.if-rows-rows2.false c.if-head-head2.false (sym (subst (Marks (goal.at.returns c).Start _) c.if-rows-rows2.false c.same_marks.ensures) ∙ c.if-not-same_marks.false))
+    ∙ sym (cells_left (first (goal.at.returns c).Start) (second (goal.at.returns c).Start) c.if-rows-rows2.false (omega arith) (sym (subst (Marks (goal.at.returns c).Start _) c.if-rows-rows2.false c.same_marks.ensures) ∙ c.if-not-same_marks.false))
