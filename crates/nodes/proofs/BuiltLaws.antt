@@ -128,6 +128,9 @@ module _ (p : List ℕ) where
     pub kept : Same b old now
     pub draws : (l : Lists) → Same a now l → Drawn p G a l → Drawn p F b l
 
+  pub rest_all : (F : Frag) (b : ℕ) (old : Lists) → Rest F b F b old old
+  rest_all F b old = record { ends = refl; after = omega arith; kept = λ u h. refl; draws = λ l s d. d }
+
   -- X is built and linked to what comes after it
   pub rest_more : (F X G : Frag) (b a x : ℕ) (y : Node) (old l₀ l₁ l₂ : Lists)
       → Rest F b (joined X G) a old l₀ → Fits p X a l₀ l₁ x → Links l₁ l₂ x 1 0 (To y) → Rest F b G y.0 old l₂

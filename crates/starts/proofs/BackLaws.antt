@@ -21,9 +21,9 @@ front-turned s d {l} {x} {n} e f g =
     (g ∙ ap (λ (l : List ℕ). reverse (take n l)) f ∙ ap (λ (l : List ℕ). reverse l) (take_at (reverse s) d n (length-reverse s ∙ sym e)) ∙ reverse-reverse s)
     (ap (drop n) f ∙ drop_at (reverse s) d n (length-reverse s ∙ sym e))
 
-get_d_reverse : (l : List ℕ) (k : ℕ) → k < length l → get_or (reverse l) k 0 ≡ get_or l (length l - 1 - k) 0
-get_d_reverse [] k h = absurd (omega arith)
-get_d_reverse (x ∷ l) k h = ap (λ (r : List ℕ). get_or r k 0) (reverse-cons x l) ∙ go (dec_lt k (length l)) (get_d_reverse l k)
+get_or-reverse : (l : List ℕ) (k : ℕ) → k < length l → get_or (reverse l) k 0 ≡ get_or l (length l - 1 - k) 0
+get_or-reverse [] k h = absurd (omega arith)
+get_or-reverse (x ∷ l) k h = ap (λ (r : List ℕ). get_or r k 0) (reverse-cons x l) ∙ go (dec_lt k (length l)) (get_or-reverse l k)
   where
     go : Dec (k < length l) → (k < length l → get_or (reverse l) k 0 ≡ get_or l (length l - 1 - k) 0) → get_or (reverse l ++ (x ∷ [])) k 0 ≡ get_or (x ∷ l) (suc (length l) - 1 - k) 0
     go (yes i) ih =
@@ -96,7 +96,7 @@ module _ {l₀ l : List ℕ} {n i : ℕ} (d : Turned l₀ l n i) where
   turned-all h = ext_get_or 0 l (reverse l₀) (omega (arith, length-reverse l₀, d.long, d.long₀)) (λ k a. go k (omega arith) (dec_lt k i) (dec_lt k (n - i)) ∙ back k (omega arith))
     where
       back : (k : ℕ) → k < n → get_or l₀ (n - 1 - k) 0 ≡ get_or (reverse l₀) k 0
-      back k a = ap (λ (m : ℕ). get_or l₀ (m - 1 - k) 0) d.long₀ ∙ sym (get_d_reverse l₀ k (omega arith))
+      back k a = ap (λ (m : ℕ). get_or l₀ (m - 1 - k) 0) d.long₀ ∙ sym (get_or-reverse l₀ k (omega arith))
 
       go : (k : ℕ) → k < n → Dec (k < i) → Dec (k < n - i) → get_or l k 0 ≡ get_or l₀ (n - 1 - k) 0
       go k a (yes b) c = d.front k b
