@@ -108,6 +108,7 @@ fn put_row(
 }
 
 // Row r is put into a group if it goes to a class that waits, unless it is alone in its class.
+#[tactic(auto, using(crate::proofs::RowLaws::single_passed, crate::proofs::RowLaws::later_filed))]
 fn sort_row(
     cells: &[u16],
     class: &[u16],

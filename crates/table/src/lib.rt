@@ -55,6 +55,7 @@ fn marks_only(marks: &[u8]) -> bool
 }
 
 // What refusal 13 asks; what is lent past the first rows is not looked at.
+#[tactic(auto, using(crate::proofs::SizeLaws::many_rows))]
 pub fn well_formed(rows: u16, head: Row, cells: &[u16], marks: &[u8]) -> bool
     ensures { result ≡ well_formed (table_of rows head.0 marks.now cells.now) }
 {

@@ -1,7 +1,8 @@
 use borrow.Author.Rules.{rules}
 use mathlib.Core.Path.{refl, sym}
 use native.Mathlib.Omega.{arith}
-use lib.ListN.{length-take}
+use Prim.Native.Nat.{◌-◌}
+use lib.ListN.{length, length-take}
 use Rattle.lines.proofs.Inputs.{line-end-dropped, no-line-end, nothing_left}
 use Rattle.lines.proofs.pattern_of.Goals as goal
 
@@ -18,4 +19,4 @@ returns-then-input-last-eq10 c =
 
 pub returns : goal.returns
 returns c =
-    record { block = refl; place = refl; bytes = sym (no-line-end c.args.input.now _ (omega arith) c.if-input-last-eq10.false) }
+    record { block = refl; place = refl; bytes = sym (no-line-end c.args.input.now (length c.args.input.now - 1) (omega arith) (search rules)) }

@@ -1,4 +1,4 @@
-use mathlib.Core.Logic.{inl, inr}
+use mathlib.Core.Logic.{inl}
 use Prim.Native.Nat.{◌+◌}
 use native.Mathlib.Omega.{arith}
 use borrow.Author.Tests.{not-true, not-false}
@@ -28,12 +28,6 @@ bounds-start-c c =
 pub overflow_sub-end : goal.overflow_sub-end
 overflow_sub-end c =
     omega (arith, c.requires.given.1.1.0.order c.args.r c.requires.given.1.1.1)
-
-pub returns-then-end-c-eq1 : goal.returns-then-end-c-eq1
-returns-then-end-c-eq1 c = record {
-  filed_2 = filed-later c.requires.filed (c.args.r + 1) (omega arith);
-  passed_2 = passed-by c.requires.passed (inr (omega (arith, c.if-end-c-eq1.true, c.requires.given.1.1.0.order c.args.r c.requires.given.1.1.1)));
-}
 
 pub returns-then-not-mixed : goal.returns-then-not-mixed
 returns-then-not-mixed c = record {

@@ -22,9 +22,6 @@ rest w e f formed = ap (λ (b : Bool). b && marked w) (sym e ∙ f) ∙ formed
 pub returns-then-rows-lt1 : goal.returns-then-rows-lt1
 returns-then-rows-lt1 c = not-formed _ (λ g. omega arith)
 
-pub returns-then-rows-gt-ROWS_MOST : goal.returns-then-rows-gt-ROWS_MOST
-returns-then-rows-gt-ROWS_MOST c = not-formed _ (λ g. omega arith)
-
 pub returns-then-marks-n : goal.returns-then-marks-n
 returns-then-marks-n c = not-formed _ (λ g. omega arith)
 
