@@ -27,26 +27,53 @@ fn read_some<R: Read>(from: &mut R, buffer: &mut [u8]) -> Input
     }
 }
 
+// How many bytes stand at the start of a buffer, and whether a read failed after them.
+#[derive(Drop)]
+struct Filled {
+    done: usize,
+    failed: bool,
+}
+
 // Reads until the buffer is full, the input ends or a read fails.
-fn read_on<R: Read>(from: &mut R, buffer: &mut [u8]) -> Input
-    ensures { InputIn result buffer.new }
+fn fill<R: Read>(from: &mut R, buffer: &mut [u8]) -> Filled
+    ensures { IsPrefixLen result.done buffer.new }
 {
     let mut done: usize = 0;
     while done < buffer.len() {
         let some = read_some(from, &mut buffer[done..]);
         match some {
             Input::Unread => {
-                return Input::Unread;
+                return Filled {
+                    done: done,
+                    failed: true,
+                };
             }
             Input::Bytes(n) => {
                 if n == 0 {
-                    return Input::Bytes(done);
+                    return Filled {
+                        done: done,
+                        failed: false,
+                    };
                 }
                 done += n;
             }
         }
     }
-    Input::Bytes(done)
+    Filled {
+        done: done,
+        failed: false,
+    }
+}
+
+// The same, where a read that fails leaves nothing.
+fn read_on<R: Read>(from: &mut R, buffer: &mut [u8]) -> Input
+    ensures { InputIn result buffer.new }
+{
+    let filled = fill(from, buffer);
+    if filled.failed {
+        return Input::Unread;
+    }
+    Input::Bytes(filled.done)
 }
 
 // Whether there is an argument after the program's name. No byte of it is asked for, so an empty one alone fits.
@@ -72,21 +99,7 @@ pub fn read_input<R: Env + std::io::Input>(rt: &R, buffer: &mut [u8]) -> Input
 pub fn read_most<R: Read>(from: &mut R, buffer: &mut [u8]) -> usize
     ensures { IsPrefixLen result buffer.new }
 {
-    let mut had: usize = 0;
-    while had < buffer.len() {
-        match read_some(from, &mut buffer[had..]) {
-            Input::Unread => {
-                return had;
-            }
-            Input::Bytes(n) => {
-                if n == 0 {
-                    return had;
-                }
-                had += n;
-            }
-        }
-    }
-    had
+    fill(from, buffer).done
 }
 
 // A line for the user, on standard error; where that fails, there is nobody to tell.
