@@ -8,7 +8,6 @@ use native.Mathlib.Omega.{arith}
 use lib.Dec.{eqb}
 use lib.ListN.{length, get_or, set, drop, replicate, get_or-replicate}
 use lib.Seq.{drop-cons, drop-length, get_or-drop, get_or-set_same, get_or-set_other}
-use mir.Val.{bool_byte}
 use borrow.Author.Count.{below_more}
 use Rattle.rules.specs.Sizes.{rows_most}
 use Rattle.rules.specs.Table.{Table, cell, fits, WellFormed}
@@ -44,31 +43,27 @@ ahead-stuck {w} {q} s (b ∷ u) h =
 pub drop-bytes : (t : List ℕ) (p : ℕ) → ((i : ℕ) → get_or t i 0 < 256) → (i : ℕ) → get_or (drop p t) i 0 < 256
 drop-bytes t p h i = rw get_or-drop (h (p + i))
 
--- a flag read back
-flag-read : (b : Bool) → eqb (bool_byte b) 1 ≡ b
-flag-read true = refl
-flag-read false = refl
-
 -- the flags at the end are those where nothing is left
-pub flags-end : {w : Table} {flags : List ℕ} (t : List ℕ) → Flags w [] flags → Flags w (drop (length t) t) flags
+pub flags-end : {w : Table} {flags : List Bool} (t : List ℕ) → Flags w [] flags → Flags w (drop (length t) t) flags
 flags-end t f = rw (drop-length t) f
 
 -- one flag more
-pub flag-more : (f : ℕ → ℕ) (flags : List ℕ) {q v : ℕ} → ((k : ℕ) → k < q → get_or flags k 0 ≡ f k) → q < length flags → v ≡ f q → (k : ℕ) → k < q + 1 → get_or (set flags q v) k 0 ≡ f k
-flag-more f flags {q} {v} h l e =
-    below_more (λ (k : ℕ). get_or (set flags q v) k 0 ≡ f k) q
-    (λ k i. get_or-set_other flags q k v 0 (λ n. omega arith) ∙ h k i)
-    (get_or-set_same flags q v 0 l ∙ e)
+pub flag-more : (f : ℕ → Bool) (flags : List Bool) {q : ℕ} {b : Bool} → ((k : ℕ) → k < q → get_or flags k false ≡ f k) → q < length flags → b ≡ f q
+    → (k : ℕ) → k < q + 1 → get_or (set flags q b) k false ≡ f k
+flag-more f flags {q} {b} h l e =
+    below_more (λ (k : ℕ). get_or (set flags q b) k false ≡ f k) q
+    (λ k i. get_or-set_other flags q k b false (λ n. omega arith) ∙ h k i)
+    (get_or-set_same flags q b false l ∙ e)
 
--- from q on the flags are 0 as at first
-abbrev pub Rest : List ℕ → ℕ → Type 0
-Rest flags q = (k : ℕ) → q ≤ k → k < rows_most → get_or flags k 0 ≡ 0
+-- from q on no flag is set, as at first
+abbrev pub Rest : List Bool → ℕ → Type 0
+Rest flags q = (k : ℕ) → q ≤ k → k < rows_most → get_or flags k false ≡ false
 
-pub rest_all : Rest (replicate {A = ℕ} 1024 0) 0
-rest_all k l h = get_or-replicate 1024 k 0 0 h
+pub rest_all : Rest (replicate 1024 false) 0
+rest_all k l h = get_or-replicate 1024 k false false h
 
-pub rest-less : (flags : List ℕ) (q v : ℕ) → Rest flags q → Rest (set flags q v) (q + 1)
-rest-less flags q v f k l h = get_or-set_other flags q k v 0 (omega arith) ∙ f k (omega arith) h
+pub rest-less : (flags : List Bool) (q : ℕ) (b : Bool) → Rest flags q → Rest (set flags q b) (q + 1)
+rest-less flags q b f k l h = get_or-set_other flags q k b false (omega arith) ∙ f k (omega arith) h
 
 -- a walk from row q has come from `from` to p, and to row q'
 pub record On (w : Table) (t : List ℕ) (q from to q' p : ℕ) : Type 0 where
@@ -94,7 +89,7 @@ module _ {w : Table} {t : List ℕ} {q from to q' p : ℕ} (o : On w t q from to
   on-dead {d} s b e =
       sym (o.same ∙ ap (λ (r : ℕ). ahead w r (drop p t)) e ∙ ahead-stuck (s (omega arith)) (drop p t) (drop-bytes t p b))
 
-  pub on-end : (flags : List ℕ) → Flags w (drop to t) flags → to ≤ p → eqb (get_or flags q' 0) 1 ≡ ahead w q (drop from t)
+  pub on-end : (flags : List Bool) → Flags w (drop to t) flags → to ≤ p → get_or flags q' false ≡ ahead w q (drop from t)
   on-end flags f h =
       let e : to ≡ p = omega arith in
-      ap (λ (n : ℕ). eqb n 1) (f.of q' o.row) ∙ flag-read (ahead w q' (drop to t)) ∙ ap (λ (n : ℕ). ahead w q' (drop n t)) e ∙ sym o.same
+      f.of q' o.row ∙ ap (λ (n : ℕ). ahead w q' (drop n t)) e ∙ sym o.same

@@ -1,2 +1,3 @@
 pub mod AheadLaws
 pub mod PlaceLaws
+pub mod SearchLaws

@@ -90,7 +90,8 @@ module _ (w : Table) (t : List ℕ) where
       here a false e l {x} f = ap (λ (a : Bool). last (elim a [ true ↦ s ∷ l | false ↦ l ])) e ∙ f ∙ sym (or-none x)
 
   -- by whether a match ends here
-  pub end-next : {p : ℕ} → p < length t → (q : ℕ) (b : Bool) → fits (mark w q) false ≡ b → last_end w q p (drop p t) ≡ or_else (last_end w (cell w q (get_or t p 0)) (p + 1) (drop (p + 1) t)) (guard b p)
+  pub end-next : {p : ℕ} → p < length t → (q : ℕ) (b : Bool) → fits (mark w q) false ≡ b
+      → last_end w q p (drop p t) ≡ or_else (last_end w (cell w q (get_or t p 0)) (p + 1) (drop (p + 1) t)) (guard b p)
   unfolding last_end
   end-next {p} h q b e =
       ap (last_end w q p) (drop-next t p h)

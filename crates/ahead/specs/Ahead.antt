@@ -2,17 +2,11 @@
 -- and what the walks that find it out ask and say.
 use Rattle.std.specs.Prelude.{◌≡◌, Bool, true, false, ◌||◌, List, [], ◌∷◌, ℕ, suc, ◌-◌, ◌≤◌, ◌<◌, length, get_or, drop}
 use Rattle.std.proofs.Math.Option.{Option}
-use mir.Val.{bool_byte}
 use Rattle.rules.specs.Tools.{kept, guard, or_else}
-use Rattle.rules.specs.Sizes.{rows_most, text_most}
-use Rattle.rules.specs.Table.{Table, cell, begins, fits, places, WellFormed}
-use Rattle.table.specs.Lent.{table_of}
+use Rattle.rules.specs.Sizes.{rows_most}
+use Rattle.rules.specs.Table.{Table, cell, begins, fits, places}
 use Rattle.table.specs.Stays.{Stays}
-use Rattle.ahead.specs.declared.Rows.{Rows}
 use Rattle.ahead.specs.declared.Walk.{Walk}
-
-abbrev pub lent : Rows → List ℕ → List ℕ → Table
-lent k marks cells = table_of k.count k.head.0 marks cells
 
 abbrev pub mark : Table → ℕ → ℕ
 mark w q = get_or w.marks q 0
@@ -37,19 +31,13 @@ pub record Stuck (w : Table) (q : ℕ) : Type 0 where
   pub stays : Stays w q
   pub barren : fits (mark w q) true ≡ false
 
--- what every walk asks: the dead row is stuck, if it is a row
-pub record Ready (w : Table) (t : List ℕ) (dead : ℕ) : Type 0 where
-  pub well : WellFormed w
-  pub short : length t ≤ text_most
-  pub stuck : dead < w.count → Stuck w dead
-
--- each row's flag, where u is left, and 0 past the rows
-pub record Flags (w : Table) (u flags : List ℕ) : Type 0 where
-  pub of : (q : ℕ) → q < w.count → get_or flags q 0 ≡ bool_byte (ahead w q u)
-  pub rest : (q : ℕ) → w.count ≤ q → q < rows_most → get_or flags q 0 ≡ 0
+-- each row's flag, where u is left, and no flag past the rows
+pub record Flags (w : Table) (u : List ℕ) (flags : List Bool) : Type 0 where
+  pub of : (q : ℕ) → q < w.count → get_or flags q false ≡ ahead w q u
+  pub rest : (q : ℕ) → w.count ≤ q → q < rows_most → get_or flags q false ≡ false
 
 -- the stretch of a walk from row q, and the flags at its end
-pub record Stretch (w : Table) (t flags : List ℕ) (q from to : ℕ) : Type 0 where
+pub record Stretch (w : Table) (t : List ℕ) (flags : List Bool) (q from to : ℕ) : Type 0 where
   pub row : q < w.count
   pub forward : from ≤ to
   pub inside : to ≤ length t

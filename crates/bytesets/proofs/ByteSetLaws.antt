@@ -5,14 +5,14 @@ use mathlib.Core.Bool.{Bool, true, false, ◌&&◌, ◌||◌}
 use mathlib.Core.List.{[], ◌∷◌}
 use Prim.Native.Nat.{ℕ, zero, suc, ◌+◌, ◌*◌, ◌-◌, ◌/◌, ◌%◌, ◌^◌, ◌≤◌, ◌<◌, min}
 use native.Mathlib.Decide.{ℕ_discrete, dec_lt}
-use native.Mathlib.Nat.{pow-succ', mul_assoc, mul-suc, mul-add, mul-le-mul_left}
+use native.Mathlib.Nat.{pow-succ', mul_assoc, mul-suc, mul-le-mul_left}
 use native.Mathlib.Omega.{arith}
 use lib.Dec.{T, eqb, leb}
 use lib.Pow.{pow_pos, pow-add, pow_mono}
 use lib.Bits.{bit_or, or_lt}
-use borrow.Author.Tests.{le-leb, lt-leb, eq-eqb, ne_eqb}
+use borrow.Author.Tests.{le-leb, lt-leb, eq-eqb}
 use Rattle.rules.specs.Tools.{has, with, with_all, up_from, range, find}
-use Rattle.rules.specs.Signs.{every_byte, within}
+use Rattle.rules.specs.Signs.{within}
 use Rattle.rules.proofs.Tests.{is_true, within_both}
 use Rattle.bytesets.specs.ByteSets.{joined, InWord}
 use Rattle.rules.proofs.Sets.{has-or, bit, bit-zero, bit-suc, same-members, with-has, with-keeps, with-only, with-lt}
@@ -28,15 +28,18 @@ small (suc k) m h = bit-suc m k ∙ small k (m / 2) (omega arith)
 bits_in : (a b k : ℕ) → a ≤ k → k < b → bit (2 ^ b - 2 ^ a) k ≡ 1
 bits_in a zero k h l = absurd (omega arith)
 bits_in zero (suc b) zero h l = omega (arith, bit-zero (2 ^ suc b - 1), pow_pos b)
-bits_in zero (suc b) (suc k) h l = let e : (2 ^ suc b - 1) / 2 ≡ 2 ^ b - 1 = omega (arith, pow_pos b) in bit-suc (2 ^ suc b - 1) k ∙ ap (λ (m : ℕ). bit m k) e ∙ bits_in zero b k (omega arith) (omega arith)
+bits_in zero (suc b) (suc k) h l = let e : (2 ^ suc b - 1) / 2 ≡ 2 ^ b - 1 = omega (arith, pow_pos b) in
+    bit-suc (2 ^ suc b - 1) k ∙ ap (λ (m : ℕ). bit m k) e ∙ bits_in zero b k (omega arith) (omega arith)
 bits_in (suc a) (suc b) zero h l = absurd (omega arith)
-bits_in (suc a) (suc b) (suc k) h l = let e : (2 ^ suc b - 2 ^ suc a) / 2 ≡ 2 ^ b - 2 ^ a = omega arith in bit-suc (2 ^ suc b - 2 ^ suc a) k ∙ ap (λ (m : ℕ). bit m k) e ∙ bits_in a b k (omega arith) (omega arith)
+bits_in (suc a) (suc b) (suc k) h l = let e : (2 ^ suc b - 2 ^ suc a) / 2 ≡ 2 ^ b - 2 ^ a = omega arith in
+    bit-suc (2 ^ suc b - 2 ^ suc a) k ∙ ap (λ (m : ℕ). bit m k) e ∙ bits_in a b k (omega arith) (omega arith)
 
 bits-low : (a b k : ℕ) → a ≤ b → k < a → bit (2 ^ b - 2 ^ a) k ≡ 0
 bits-low zero b k h l = absurd (omega arith)
 bits-low (suc a) zero k h l = absurd (omega arith)
 bits-low (suc a) (suc b) zero h l = omega (arith, bit-zero (2 ^ suc b - 2 ^ suc a))
-bits-low (suc a) (suc b) (suc k) h l = let e : (2 ^ suc b - 2 ^ suc a) / 2 ≡ 2 ^ b - 2 ^ a = omega arith in bit-suc (2 ^ suc b - 2 ^ suc a) k ∙ ap (λ (m : ℕ). bit m k) e ∙ bits-low a b k (omega arith) (omega arith)
+bits-low (suc a) (suc b) (suc k) h l = let e : (2 ^ suc b - 2 ^ suc a) / 2 ≡ 2 ^ b - 2 ^ a = omega arith in
+    bit-suc (2 ^ suc b - 2 ^ suc a) k ∙ ap (λ (m : ℕ). bit m k) e ∙ bits-low a b k (omega arith) (omega arith)
 
 bits-high : (a b k : ℕ) → b ≤ k → bit (2 ^ b - 2 ^ a) k ≡ 0
 bits-high a b k h = small k (2 ^ b - 2 ^ a) (omega (arith, pow_pos a, pow_pos k, pow_mono {i = b} {j = k} h))
@@ -61,13 +64,6 @@ within-high lo hi c h = rw (lt-leb c hi h) (no_more (leb lo c))
     no_more : (b : Bool) → (b && false) ≡ false
     no_more true = refl
     no_more false = refl
-
--- one byte
-pub one_byte : (b : ℕ) → with_all 0 (range b b) ≡ 2 ^ b
-one_byte b = ap (λ (n : ℕ). with_all 0 (up_from b n)) one-long ∙ ap (λ (t : Bool). elim t [ true ↦ 0 | false ↦ 0 + 2 ^ b ]) (bit-false 0 b (none b)) ∙ omega arith
-  where
-    one-long : 1 + b - b ≡ 1
-    one-long = omega arith
 
     none : (k : ℕ) → bit 0 k ≡ 0
     none zero = refl
@@ -131,7 +127,8 @@ module _ (lo hi : ℕ) where
     where
       go : Dec (k < 64) → has (bit_or a x + 2 ^ 64 * q) k ≡ (has (a + 2 ^ 64 * m) k || within lo hi (first + k))
       go (yes l) = has-low k (bit_or a x) q l ∙ has-or a x k ∙ rw (w k l, has-low k a m l)
-      go (no n) = let e : k ≡ 64 + (k - 64) = omega arith in rw e (has-high (k - 64) (bit_or a x) q (or_lt 64 a x ha hx) ∙ r (k - 64) ∙ rw (has-high (k - 64) a m ha) (ap (λ (i : ℕ). has m (k - 64) || within lo hi i) (omega arith)))
+      go (no n) = let e : k ≡ 64 + (k - 64) = omega arith in
+          rw e (has-high (k - 64) (bit_or a x) q (or_lt 64 a x ha hx) ∙ r (k - 64) ∙ rw (has-high (k - 64) a m ha) (ap (λ (i : ℕ). has m (k - 64) || within lo hi i) (omega arith)))
 
   last-adds : (d x : ℕ) → hi < 256 → x < 2 ^ 64 → InWord lo hi 192 x → Adds 192 d (bit_or d x)
   last-adds d x h hx w k = has-or d x k ∙ ap (λ (b : Bool). has d k || b) (go (dec_lt k 64))
@@ -228,43 +225,6 @@ module _ (lo hi : ℕ) (h : lo ≤ hi) (l : hi < 256) (a b c d x y z w : ℕ) wh
       (joined-lt (bit_or a x) (bit_or b y) (bit_or c z) (bit_or d w) (or_lt 64 a x ha hx) (or_lt 64 b y hb hy) (or_lt 64 c z hc hz) (or_lt 64 d w hd hw))
       (word-adds lo hi 0 a x _ _ ha hx ix (word-adds lo hi 64 b y _ _ hb hy iy (word-adds lo hi 128 c z _ _ hc hz iz (last-adds lo hi d w l hw iw))))
 
--- ---- all bytes but those in the words
-
-module _ (n a m q : ℕ) (l : a < n) (h : m ≤ q) where
-  rest_le : a + n * m ≤ n - 1 + n * q
-  rest_le = omega (arith, mul-le-mul_left {m = m} {n = q} n h)
-
-  rest-word : (n - 1 + n * q) - (a + n * m) ≡ (n - 1 - a) + n * (q - m)
-  rest-word = let z : q ≡ m + (q - m) = omega arith in
-      let e : n * q ≡ n * (m + (q - m)) = ap (λ (x : ℕ). n * x) z in
-      omega (arith, mul-add n m (q - m))
-
-pub rest-added : (a b c d : ℕ) → a < 2 ^ 64 → b < 2 ^ 64 → c < 2 ^ 64 → d < 2 ^ 64
-    → joined (2 ^ 64 - 1 - a) (2 ^ 64 - 1 - b) (2 ^ 64 - 1 - c) (2 ^ 64 - 1 - d) ≡ every_byte - joined a b c d
-rest-added a b c d ha hb hc hd =
-    sym (rest-word (2 ^ 64) a _ _ ha (rest_le (2 ^ 64) b _ _ hb (rest_le (2 ^ 64) c d (2 ^ 64 - 1) hc (omega arith)))
-    ∙ ap (λ (x : ℕ). (2 ^ 64 - 1 - a) + 2 ^ 64 * x) (rest-word (2 ^ 64) b _ _ hb (rest_le (2 ^ 64) c d (2 ^ 64 - 1) hc (omega arith))
-    ∙ ap (λ (x : ℕ). (2 ^ 64 - 1 - b) + 2 ^ 64 * x) (rest-word (2 ^ 64) c d (2 ^ 64 - 1) hc (omega arith))))
-
--- ---- no byte is in the words
-
-word_none : (a m : ℕ) → a + 2 ^ 64 * m ≡ 0 → (a ≡ 0) × (m ≡ 0)
-word_none a m e = (omega arith, omega arith)
-
-pub joined-none : (a b c d : ℕ) → joined a b c d ≡ 0 → (a ≡ 0) × (b ≡ 0) × (c ≡ 0) × (d ≡ 0)
-joined-none a b c d e =
-    let x = word_none a (b + 2 ^ 64 * (c + 2 ^ 64 * d)) e in
-    let y = word_none b (c + 2 ^ 64 * d) x.1 in
-    let z = word_none c d y.1 in
-    (x.0, y.0, z.0, z.1)
-
-pub last_none : (a b c d : ℕ) → a ≡ 0 → b ≡ 0 → c ≡ 0 → eqb d 0 ≡ eqb (joined a b c d) 0
-last_none a b c d x y z = rw (x, y, z) (go (ℕ_discrete d 0))
-  where
-    go : Dec (d ≡ 0) → eqb d 0 ≡ eqb (joined 0 0 0 d) 0
-    go (yes e) = rw e
-    go (no n) = ne_eqb d 0 n ∙ sym (ne_eqb (joined 0 0 0 d) 0 (λ e. n (joined-none 0 0 0 d e).3))
-
 -- ---- a byte's bit is in the word of its number
 
 module _ (a b c d v : ℕ) (ha : a < 2 ^ 64) (hb : b < 2 ^ 64) (hc : c < 2 ^ 64) (hv : v < 256) where
@@ -281,10 +241,15 @@ module _ (a b c d v : ℕ) (ha : a < 2 ^ 64) (hb : b < 2 ^ 64) (hc : c < 2 ^ 64)
       go (yes l) m n = moved 0 v (omega arith) (omega arith) ∙ sym (has-low v a (b + 2 ^ 64 * (c + 2 ^ 64 * d)) l)
       go (no l) (yes m) n =
           let e : v ≡ 64 + (v - 64) = omega arith in
-          moved 1 (v - 64) (omega arith) (omega arith) ∙ sym (ap (λ (k : ℕ). has (joined a b c d) k) e ∙ has-high (v - 64) a (b + 2 ^ 64 * (c + 2 ^ 64 * d)) ha ∙ has-low (v - 64) b (c + 2 ^ 64 * d) (omega arith))
+          moved 1 (v - 64) (omega arith) (omega arith)
+          ∙ sym (ap (λ (k : ℕ). has (joined a b c d) k) e ∙ has-high (v - 64) a (b + 2 ^ 64 * (c + 2 ^ 64 * d)) ha ∙ has-low (v - 64) b (c + 2 ^ 64 * d) (omega arith))
       go (no l) (no m) (yes n) =
           let e : v ≡ 64 + (64 + (v - 128)) = omega arith in
-          moved 2 (v - 128) (omega arith) (omega arith) ∙ sym (ap (λ (k : ℕ). has (joined a b c d) k) e ∙ has-high (64 + (v - 128)) a (b + 2 ^ 64 * (c + 2 ^ 64 * d)) ha ∙ has-high (v - 128) b (c + 2 ^ 64 * d) hb ∙ has-low (v - 128) c d (omega arith))
+          moved 2 (v - 128) (omega arith) (omega arith)
+          ∙ sym (ap (λ (k : ℕ). has (joined a b c d) k) e ∙ has-high (64 + (v - 128)) a (b + 2 ^ 64 * (c + 2 ^ 64 * d)) ha ∙ has-high (v - 128) b (c + 2 ^ 64 * d) hb
+          ∙ has-low (v - 128) c d (omega arith))
       go (no l) (no m) (no n) =
           let e : v ≡ 64 + (64 + (64 + (v - 192))) = omega arith in
-          moved 3 (v - 192) (omega arith) (omega arith) ∙ sym (ap (λ (k : ℕ). has (joined a b c d) k) e ∙ has-high (64 + (64 + (v - 192))) a (b + 2 ^ 64 * (c + 2 ^ 64 * d)) ha ∙ has-high (64 + (v - 192)) b (c + 2 ^ 64 * d) hb ∙ has-high (v - 192) c d hc)
+          moved 3 (v - 192) (omega arith) (omega arith)
+          ∙ sym (ap (λ (k : ℕ). has (joined a b c d) k) e ∙ has-high (64 + (64 + (v - 192))) a (b + 2 ^ 64 * (c + 2 ^ 64 * d)) ha ∙ has-high (64 + (v - 192)) b (c + 2 ^ 64 * d) hb
+          ∙ has-high (v - 192) c d hc)

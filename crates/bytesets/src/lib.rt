@@ -7,27 +7,14 @@ ghost use Rattle.rules.specs.Tools.{range, with_all};
 ghost use Rattle.rules.specs.Signs.{every_byte};
 ghost use Rattle.bytesets.specs.ByteSets.{bytes_of, word_of, InWord};
 
-#[derive(Clone, Copy)]
+#[derive(Clone, Copy, PartialEq, Eq)]
 pub struct ByteSet(pub u64, pub u64, pub u64, pub u64);
 
 // The bits below n, of which a word has 64.
 fn bits_below(n: u16) -> u64
     ensures { result ≡ 2 ^ min n 64 - 1 }
 {
-    if 64 <= n {
-        return u64::MAX;
-    }
-    (1u64 << n) - 1
-}
-
-// n less the bytes before a word.
-fn less(n: u16, before: u16) -> u16
-    ensures { result ≡ n - before }
-{
-    if n < before {
-        return 0;
-    }
-    n - before
+    if n < 64 { (1u64 << n) - 1 } else { u64::MAX }
 }
 
 // Of the bytes lo to hi, those in the word that begins with the byte `first`.
@@ -35,7 +22,8 @@ fn bits_between(lo: u8, hi: u8, first: u16) -> u64
     requires { lo ≤ hi }
     ensures { InWord lo hi first result }
 {
-    bits_below(less(hi as u16 + 1, first)) - bits_below(less(lo as u16, first))
+    bits_below((hi as u16 + 1).saturating_sub(first))
+        - bits_below((lo as u16).saturating_sub(first))
 }
 
 impl ByteSet {
@@ -61,27 +49,13 @@ impl ByteSet {
     pub fn rest(self) -> ByteSet
         ensures { bytes_of result ≡ every_byte - bytes_of self }
     {
-        ByteSet(
-            u64::MAX - self.0,
-            u64::MAX - self.1,
-            u64::MAX - self.2,
-            u64::MAX - self.3,
-        )
+        ByteSet(!self.0, !self.1, !self.2, !self.3)
     }
 
     pub fn is_empty(self) -> bool
         ensures { result ≡ eqb (bytes_of self) 0 }
     {
-        if self.0 != 0 {
-            return false;
-        }
-        if self.1 != 0 {
-            return false;
-        }
-        if self.2 != 0 {
-            return false;
-        }
-        self.3 == 0
+        self == ByteSet::none()
     }
 
     fn word(self, k: u8) -> u64

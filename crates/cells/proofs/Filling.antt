@@ -148,9 +148,12 @@ module _ {room : ℕ} {set starts masks : List ℕ} {runs : ℕ} {sets : List �
         low : (top : ℕ) → MasksUnder top (length set) masks runs → RowsUnder top (length set) sets c → (i v : ℕ) → 2 ≤ i → i < d' → T (has (taken_at (length set) new' i) v)
             → Dec (i < d) → v < top
         low top m u i v li ld h (yes x) = F.under top m u i v li x (subst (λ (ws : List ℕ). T (has (mask_of ws) v)) (K.kept i x) h)
-        low top m u i v li ld h (no x) = ⊎_elim (λ y. absurd (omega arith)) (λ y. m k v l (both_right (has (mask_of set) v) (has (mask_of (row_words (length set) masks k)) v) (subst T (meets-has set (row_words (length set) masks k) v)
+        low top m u i v li ld h (no x) = ⊎_elim (λ y. absurd (omega arith)) (λ y. m k v l (both_right (has (mask_of set) v) (has (mask_of mask) v) (subst T (meets-has set mask v)
             (subst (λ (ws : List ℕ). T (has (mask_of ws) v)) (ap (row_words (length set) new') (is_last y) ∙ K.here) h)))) K.grown
           where
+            mask : List ℕ
+            mask = row_words (length set) masks k
+
             is_last : (d' ≡ suc d) × (r ≡ d) × Unknown (length set) new d (meets set (row_words (length set) masks k)) → i ≡ r
             is_last y = omega (arith, y.0, y.1)
 
@@ -163,7 +166,8 @@ module _ {room : ℕ} {set starts masks : List ℕ} {runs : ℕ} {sets : List �
         fits : from + size ≤ length row
         fits = omega (arith, S.rises k l)
 
-        cell : (X : Tree) (q : ℕ) → AtRow X (length set) set starts masks runs sets c q → (a : ℕ) → a < get_or starts (k + 1) 0 → Dec (a < from) → get_or (put_run row from (get_or starts (k + 1) 0) r) a 0 ≡ place_of (machine X) q a
+        cell : (X : Tree) (q : ℕ) → AtRow X (length set) set starts masks runs sets c q → (a : ℕ) → a < get_or starts (k + 1) 0 → Dec (a < from)
+            → get_or (put_run row from (get_or starts (k + 1) 0) r) a 0 ≡ place_of (machine X) q a
         cell X q R a la (yes x) = put-below row ys from size ys-long fits a x ∙ F.cells X q R a x
         cell X q R a la (no x) = ap (λ (j : ℕ). get_or (put_run row from (get_or starts (k + 1) 0) r) j 0) past ∙ put-at row ys from size ys-long fits (a - from) (omega arith)
             ∙ get_or-replicate size (a - from) r 0 (omega arith) ∙ sym (step X q R).1

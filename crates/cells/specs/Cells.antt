@@ -1,5 +1,5 @@
 -- The nodes and the cells of a row, and what is listed meanwhile.
-use Rattle.std.specs.Prelude.{◌≡◌, ◌⊎◌, true, false, List, ◌++◌, ℕ, ◌*◌, ◌-◌, ◌≤◌, ◌<◌, T, eqb, ltb, length, get_or, take, drop, replicate}
+use Rattle.std.specs.Prelude.{◌≡◌, ◌⊎◌, true, false, List, ◌++◌, ℕ, ◌*◌, ◌-◌, ◌≤◌, ◌<◌, T, eqb, ltb, length, get_or, take, drop, replicate, Option, Some, None}
 use Rattle.rules.specs.Tools.{has, place}
 use Rattle.rules.specs.Tree.{Tree}
 use Rattle.rules.specs.SetRows.{Machine, machine, same_row, next, row_at, set_rows, row_count}
@@ -7,9 +7,8 @@ use Rattle.nodesets.specs.NodeSets.{mask_of, row_words, Within}
 use Rattle.closing.specs.Closing.{closing}
 use Rattle.cells.specs.Taken.{Leaving, Taken}
 use Rattle.known.specs.Known.{Book, RowOf}
+use Rattle.known.specs.declared.Known.{Known}
 use Rattle.runs.specs.Runs.{InRun}
-use Rattle.cells.specs.declared.Filled.{Filled}
-use Rattle.cells.specs.declared.Filled.TheVariants as filled
 
 -- the place in the list of the row to which row p goes on byte b
 abbrev pub place_of : Machine → ℕ → ℕ → ℕ
@@ -85,7 +84,9 @@ pub record FilledTo (room : ℕ) (set starts masks : List ℕ) (runs : ℕ) (set
   pub goes : (X : Tree) (q : ℕ) → AtRow X (length set) set starts masks runs sets c q → Going (machine X) (taken_at (length set) new) d q b
   pub cells : (X : Tree) (q : ℕ) → AtRow X (length set) set starts masks runs sets c q → (a : ℕ) → a < b → get_or row a 0 ≡ place_of (machine X) q a
 
-abbrev pub FilledAs : ℕ → List ℕ → List ℕ → List ℕ → ℕ → List ℕ → ℕ → List ℕ → List ℕ → List ℕ → List ℕ → Filled → Type 0
-FilledAs room set starts masks runs sets c new heads nexts row (filled.Rows d) = FilledTo room set starts masks runs sets c new heads nexts row d 256
-FilledAs room set starts masks runs sets c new heads nexts row filled.Full =
-    (X : Tree) (q : ℕ) → AtRow X (length set) set starts masks runs sets c q → room < row_count X
+-- as many rows may be as before, and row q has its cells; or there is no room for all rows of the tree
+abbrev pub FilledAs : List ℕ → List ℕ → List ℕ → ℕ → List ℕ → Known → List ℕ → Known → List ℕ → Option (Unit {0}) → Type 0
+FilledAs set starts masks runs sets old new k row (Some u) =
+    (k.room ≡ old.room) × FilledTo old.room set starts masks runs sets old.rows new k.heads k.nexts row k.rows 256
+FilledAs set starts masks runs sets old new k row None =
+    (k.room ≡ old.room) × ((X : Tree) (q : ℕ) → AtRow X (length set) set starts masks runs sets old.rows q → old.room < row_count X)

@@ -4,31 +4,35 @@
 ghost use Rattle.std.specs.Prelude.{◌≡◌, ◌+◌, ◌*◌, ◌^◌, ◌≤◌, ◌<◌, length, get_or, replicate};
 ghost use Rattle.rules.specs.Sizes.{words_a_row};
 ghost use Rattle.nodesets.specs.NodeSets.{mask_of, row_words, meets, Within};
-ghost use Rattle.closing.specs.Closing.{Nodes, Wide};
-ghost use Rattle.known.specs.Known.{Book, Took};
+ghost use Rattle.closing.specs.Closing.{NodesIn, Wide};
+ghost use Rattle.entries.specs.Entries.{kinds_of, firsts_of, seconds_of};
+ghost use Rattle.known.specs.Known.{Knows, Took};
 ghost use Rattle.runs.specs.Runs.{Starts};
 ghost use Rattle.cells.specs.Cells.{taken_at, seeds_of, nodes_of, TakenBefore, put_run, FilledAs};
 
-use closing::close;
+use closing::Crossed;
+use entries::Entry;
 use kinds::{Node, Row, WORDS_A_ROW};
-use known::{Got, take_in};
+use known::{Known, Used};
 use mixing::BUCKETS;
-use nodesets::{copy, first_used, meet_again, nodes_after, put_in, used_end};
+use nodesets::{first_used, meet_again, nodes_after, put_in, used_end};
 
-// How many rows there are after a row is filled; or that there is no room for another.
-#[derive(Drop)]
-pub enum Filled {
-    Rows(usize),
-    Full,
+// The runs of bytes: the first byte of each and 256, and for each a row of words with the nodes whose edge is crossed on its bytes.
+#[derive(Clone, Copy)]
+pub struct Runs<'r> {
+    pub count: usize,
+    pub starts: &'r [u16],
+    pub masks: &'r [u64],
 }
 
 // What row q is closed from: the start node, or the nodes after those from which an edge was taken.
 fn begin(set: &mut [u64], sets: &[u64], q: usize)
-    requires { (0 < length set.old) × ((length set.old ≤ words_a_row) × ((2 ≤ q → words_a_row * q + words_a_row ≤ length sets.now) × (2 ≤ q → taken_at (length set.old) sets.now q * 2 < 2 ^ (64 * length set.old)))) }
+    requires { (0 < length set.old) × ((length set.old ≤ words_a_row)
+        × ((2 ≤ q → words_a_row * q + words_a_row ≤ length sets.now) × (2 ≤ q → taken_at (length set.old) sets.now q * 2 < 2 ^ (64 * length set.old)))) }
     ensures { (length set.new ≡ length set.old) × (mask_of set.new ≡ seeds_of (taken_at (length set.old) sets.now) q) }
 {
     if q < 2 {
-        sets::clear(set);
+        set.fill(0);
         put_in(set, Node(0));
         return;
     }
@@ -37,73 +41,55 @@ fn begin(set: &mut [u64], sets: &[u64], q: usize)
 }
 
 // The nodes of row q.
-pub fn take_up(
-    set: &mut [u64],
-    pending: &mut [u64],
-    sets: &[u64],
-    q: usize,
-    kind: &[u8],
-    to1: &[u16],
-    to2: &[u16],
-)
-    requires { Nodes kind.now to1.now to2.now × (Wide (length kind.now) set.old × ((length pending.old ≡ length set.old) × ((0 < length kind.now) × ((2 ≤ q → words_a_row * q + words_a_row ≤ length sets.now) × (2 ≤ q → taken_at (length set.old) sets.now q * 2 < 2 ^ length kind.now))))) }
-    ensures { (length set.new ≡ length set.old) × ((length pending.new ≡ length set.old) × (mask_of set.new ≡ nodes_of kind.now to1.now to2.now (taken_at (length set.old) sets.now) q)) }
+pub fn take_up(set: &mut [u64], pending: &mut [u64], sets: &[u64], q: usize, nodes: &[Entry])
+    requires { NodesIn nodes.now × (Wide (length nodes.now) set.old × ((length pending.old ≡ length set.old) × ((0 < length nodes.now)
+        × ((2 ≤ q → words_a_row * q + words_a_row ≤ length sets.now) × (2 ≤ q → taken_at (length set.old) sets.now q * 2 < 2 ^ length nodes.now))))) }
+    ensures { (length set.new ≡ length set.old) × ((length pending.new ≡ length set.old)
+        × (mask_of set.new ≡ nodes_of (kinds_of nodes.now) (firsts_of nodes.now) (seconds_of nodes.now) (taken_at (length set.old) sets.now) q)) }
 {
     begin(set, sets, q);
-    copy(pending, set);
-    close(set, pending, kind, to1, to2, q == 1, false);
+    pending.copy_from_slice(set);
+    let crossed = Crossed {
+        nodes,
+        head: q == 1,
+        tail: false,
+    };
+    crossed.close(set, pending);
 }
 
-// Every cell becomes row r.
-fn spread(cells: &mut [u16], r: Row)
-    ensures { cells.new ≡ replicate (length cells.old) r.0 }
-{
-    let x = r.0;
-    let mut i: usize = 0;
-    while i < cells.len() {
-        cells[i] = x;
-        i += 1;
-    }
-}
-
-// The row to which the nodes of the set go on the bytes of run k. `taken` has what was taken before, and row `before` has that; it is
-// 0 where that row is not known.
+// The row to which the nodes of the set go on the bytes of run k. `taken` has what was taken before, and row `before` has that; as in
+// the buckets it is 0 where that row is not known.
 fn take_run(
     taken: &mut [u64],
     set: &[u64],
-    from: usize,
-    to: usize,
-    masks: &[u64],
+    used: Used,
+    runs: &Runs,
     k: usize,
     before: u16,
     sets: &mut [u64],
-    heads: &mut [u16],
-    nexts: &mut [u16],
-    rows: usize,
-    room: usize,
-) -> Got
-    requires set_len_bound { (length set.now ≤ words_a_row) × ((words_a_row * k + words_a_row ≤ length masks.now) × Book (length set.now) room sets.old heads.old nexts.old rows) }
-    requires within { Within from to set.now × TakenBefore from to (length set.now) sets.old rows taken.old before }
-    ensures { (taken.new ≡ meets set.now (row_words (length set.now) masks.now k))
-        × Took (length set.now) room sets.old rows taken.new sets.new heads.new nexts.new result }
+    known: &mut Known,
+) -> Option<Row>
+    requires room { (length set.now ≤ words_a_row) × ((words_a_row * k + words_a_row ≤ length runs.now.masks.now) × Knows (length set.now) sets.old known.old) }
+    requires within { Within used.from used.to set.now × TakenBefore used.from used.to (length set.now) sets.old known.old.rows taken.old before }
+    ensures { (taken.new ≡ meets set.now (row_words (length set.now) runs.now.masks.now k))
+        × Took (length set.now) sets.old known.old taken.new sets.new known.new result }
 {
     let at = WORDS_A_ROW * k;
-    if meet_again(taken, set, &masks[at..at + set.len()], from, to) {
-        if before != 0 {
-            return Got::In(Row(before), rows);
-        }
+    let mask = &runs.masks[at..at + set.len()];
+    if meet_again(taken, set, mask, used.from, used.to) && before != 0 {
+        return Some(Row(before));
     }
-    take_in(sets, heads, nexts, rows, room, taken, from, to)
+    known.take_in(sets, taken, used)
 }
 
 // The cells of run k become row r.
-fn spread_run(row: &mut [u16], starts: &[u16], runs: usize, k: usize, r: Row)
-    requires { (length row.old ≡ 256) × (Starts starts.now runs × (k < runs)) }
-    ensures { row.new ≡ put_run row.old (get_or starts.now k 0) (get_or starts.now (k + 1) 0) r.0 }
+fn spread_run(row: &mut [u16], runs: &Runs, k: usize, r: Row)
+    requires { (length row.old ≡ 256) × (Starts runs.now.starts.now runs.now.count × (k < runs.now.count)) }
+    ensures { row.new ≡ put_run row.old (get_or runs.now.starts.now k 0) (get_or runs.now.starts.now (k + 1) 0) r.0 }
 {
-    let from = starts[k] as usize;
-    let to = starts[k + 1] as usize;
-    spread(&mut row[from..to], r);
+    let from = runs.starts[k] as usize;
+    let to = runs.starts[k + 1] as usize;
+    row[from..to].fill(r.0);
 }
 
 // Where the nodes of the set go on each run of bytes. `taken` is empty.
@@ -111,77 +97,47 @@ fn fill_runs(
     row: &mut [u16],
     taken: &mut [u64],
     set: &[u64],
-    from: usize,
-    to: usize,
-    starts: &[u16],
-    masks: &[u64],
-    runs: usize,
+    used: Used,
+    runs: &Runs,
     sets: &mut [u64],
-    heads: &mut [u16],
-    nexts: &mut [u16],
-    rows: usize,
-    room: usize,
-) -> Filled
-    requires row_len { (length row.old ≡ 256) × ((length set.now ≤ words_a_row) × (Starts starts.now runs
-        × ((words_a_row * runs ≤ length masks.now) × Book (length set.now) room sets.old heads.old nexts.old rows))) }
-    requires within { Within from to set.now × (taken.old ≡ replicate (length set.now) 0) }
-    ensures { FilledAs room set.now starts.now masks.now runs sets.old rows
-        sets.new heads.new nexts.new row.new result }
+    known: &mut Known,
+) -> Option<()>
+    requires room { (length row.old ≡ 256) × ((length set.now ≤ words_a_row) × (Starts runs.now.starts.now runs.now.count
+        × ((words_a_row * runs.now.count ≤ length runs.now.masks.now) × Knows (length set.now) sets.old known.old))) }
+    requires within { Within used.from used.to set.now × (taken.old ≡ replicate (length set.now) 0) }
+    ensures { FilledAs set.now runs.now.starts.now runs.now.masks.now runs.now.count sets.old known.old sets.new known.new row.new result }
 {
-    let mut before = heads[BUCKETS];
-    let mut c = rows;
-    let mut k: usize = 0;
-    while k < runs {
-        match take_run(
-            taken, set, from, to, masks, k, before, sets, heads, nexts, c, room,
-        ) {
-            Got::Over => {
-                return Filled::Full;
-            }
-            Got::In(r, d) => {
-                spread_run(row, starts, runs, k, r);
-                before = r.0;
-                c = d;
-            }
-        }
-        k += 1;
+    let mut before = known.heads[BUCKETS];
+    for k in 0..runs.count {
+        let r = take_run(taken, set, used, runs, k, before, sets, known)?;
+        spread_run(row, runs, k, r);
+        before = r.0;
     }
-    Filled::Rows(c)
+    Some(())
 }
 
-// A row's own 256 cells: where its nodes go on each run of bytes.
+// A row's own 256 cells: where its nodes go on each run of bytes. None where there is no room for a row more.
 pub fn fill(
     row: &mut [u16],
     set: &[u64],
-    starts: &[u16],
-    masks: &[u64],
-    runs: usize,
+    runs: &Runs,
     sets: &mut [u64],
-    heads: &mut [u16],
-    nexts: &mut [u16],
-    rows: usize,
-    room: usize,
-) -> Filled
-    requires { (length row.old ≡ 256) × ((length set.now ≤ words_a_row) × (Starts starts.now runs × ((words_a_row * runs ≤ length masks.now) × Book (length set.now) room sets.old heads.old nexts.old rows))) }
-    ensures { FilledAs room set.now starts.now masks.now runs sets.old rows sets.new heads.new nexts.new row.new result }
+    known: &mut Known,
+) -> Option<()>
+    requires { (length row.old ≡ 256) × ((length set.now ≤ words_a_row) × (Starts runs.now.starts.now runs.now.count
+        × ((words_a_row * runs.now.count ≤ length runs.now.masks.now) × Knows (length set.now) sets.old known.old))) }
+    ensures { FilledAs set.now runs.now.starts.now runs.now.masks.now runs.now.count sets.old known.old sets.new known.new row.new result }
 {
-    let w = set.len();
     let from = first_used(set);
     let to = used_end(set, from);
     let mut taken = [0u64; WORDS_A_ROW];
     fill_runs(
         row,
-        &mut taken[..w],
+        &mut taken[..set.len()],
         set,
-        from,
-        to,
-        starts,
-        masks,
+        Used { from, to },
         runs,
         sets,
-        heads,
-        nexts,
-        rows,
-        room,
+        known,
     )
 }

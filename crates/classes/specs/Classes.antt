@@ -1,21 +1,16 @@
 -- The parts of a class.
-use Rattle.std.specs.Prelude.{◌≡◌, Bool, true, List, [], ◌∷◌, ℕ, ◌+◌, ◌≤◌, leb, length, drop}
+use Rattle.std.specs.Prelude.{List, [], ◌∷◌, ℕ, leb, length, Some, None}
 use Rattle.std.proofs.Math.Option.{Option, none, some}
 use Rattle.rules.specs.Tools.{◌>>=◌, guard, if_some, range, with_all}
 use Rattle.rules.specs.Signs.{named}
-use Rattle.rules.specs.Reader.{past, past_all, named_class, member, item, items}
+use Rattle.rules.specs.Reader.{past, named_class, member, item, items}
 use Rattle.bytesets.specs.ByteSets.{bytes_of}
-use Rattle.classes.specs.declared.Class.{Class}
-use Rattle.classes.specs.declared.Class.TheVariants.{Read, Bad}
+use Rattle.bytesets.specs.declared.ByteSet.{ByteSet}
 
-abbrev pub class_of : Class → Option (ℕ × ℕ)
-class_of (Read s next) = some (bytes_of s, next)
-class_of Bad = none
-
--- r says whether the name stands at the place `at` of p
-pub record Spelled (name p : List ℕ) (at : ℕ) (r : Bool) : Type 0 where
-  pub is : guard r (drop (at + length name) p) ≡ past_all name (drop at p)
-  pub within : r ≡ true → at + length name ≤ length p
+-- the bytes so far, and the place after what was read
+abbrev pub class_of : Rattle.std.specs.Prelude.Option (ByteSet × ℕ) → Option (ℕ × ℕ)
+class_of (Some x) = some (bytes_of x.0, x.1)
+class_of None = none
 
 -- the bytes that are found, added to the set B
 abbrev pub added_to : ℕ → Option (List ℕ × List ℕ) → Option (ℕ × List ℕ)

@@ -1,3 +1,4 @@
+pub mod KindLaws
 pub mod Ways
 pub mod Sweeps
 pub mod MarkLaws

@@ -104,9 +104,6 @@ added-old (inl (h, em, ep, ei)) x g = rw em g
 added-old {m} {v = v} (inr (ne, em, ep, le, lo)) x g = rw em (with-keeps m v x g)
 
 module _ {c : Kind → Bool} {es : List Edge} {n : ℕ} where
-  pub onward-none : {Old : ℕ → Type 0} {m p i : ℕ} → Onward c es n Old m p i Old m p i
-  onward-none = record { small = λ s. s; small-too = λ s. s; grows = omega arith; still = λ e. (refl, refl); back = omega arith; sweeps = λ seeds full f s. s }
-
   pub onward_then : {A B C : ℕ → Type 0} {m p i m' p' i' m'' p'' i'' : ℕ} → Onward c es n A m p i B m' p' i' → Onward c es n B m' p' i' C m'' p'' i'' → Onward c es n A m p i C m'' p'' i''
   onward_then a b = record {
     small = λ s. b.small (a.small s);

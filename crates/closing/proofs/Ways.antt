@@ -22,8 +22,8 @@ use Rattle.entries.specs.Nodes.{node_edges, list_edges}
 use Rattle.rules.specs.SetRows.{crosses}
 use Rattle.closing.specs.Closing.{ways, targets_of}
 use Rattle.kinds.specs.declared.Node.{Node}
-use Rattle.closing.specs.declared.Targets.{Targets}
-use Rattle.closing.specs.declared.Targets.TheVariants.{Two, Nothing}
+use Rattle.std.specs.Prelude.{Option, Some, None}
+use Rattle.std.specs.Bool.{then_some}
 
 -- ---- lists node by node
 
@@ -83,12 +83,12 @@ abbrev Goes : (Kind → Bool) → List Edge → ℕ → Type 0
 Goes c es v = (x : Edge) × (x ∈ es) × T (c x.on) × (x.to ≡ v)
 
 -- the targets are those of the edges of es that c crosses
-abbrev LeadsTo : (Kind → Bool) → List Edge → Targets → Type 0
-LeadsTo c es (Two a b) = Goes c es a.0 × Goes c es b.0 × ((x : Edge) → x ∈ es → T (c x.on) → (x.to ≡ a.0) ⊎ (x.to ≡ b.0))
-LeadsTo c es Nothing = (x : Edge) → x ∈ es → T (c x.on) → ⊥
+abbrev LeadsTo : (Kind → Bool) → List Edge → Option (Node × Node) → Type 0
+LeadsTo c es (Some (a, b)) = Goes c es a.0 × Goes c es b.0 × ((x : Edge) → x ∈ es → T (c x.on) → (x.to ≡ a.0) ⊎ (x.to ≡ b.0))
+LeadsTo c es None = (x : Edge) → x ∈ es → T (c x.on) → ⊥
 
 module _ (h t : Bool) (a b u : ℕ) where
-  one_way : (k : Kind) → T (crosses h t k) → LeadsTo (crosses h t) (edge u k (suc u) ∷ []) (Two (record { 0 = u + 1 }) (record { 0 = u + 1 }))
+  one_way : (k : Kind) → T (crosses h t k) → LeadsTo (crosses h t) (edge u k (suc u) ∷ []) (Some (record { 0 = u + 1 }, record { 0 = u + 1 }))
   one_way k c = (way, way, only)
     where
       up : suc u ≡ u + 1
@@ -101,15 +101,15 @@ module _ (h t : Bool) (a b u : ℕ) where
       only x (first e) g = inl (ap (λ (y : Edge). y.to) e ∙ up)
       only x (later e) g = absurd (Memᴰ.not-nil e)
 
-  no_way : (k : Kind) → (T (crosses h t k) → ⊥) → LeadsTo (crosses h t) (edge u k (suc u) ∷ []) Nothing
+  no_way : (k : Kind) → (T (crosses h t k) → ⊥) → LeadsTo (crosses h t) (edge u k (suc u) ∷ []) None
   no_way k n x (first e) g = n (subst (λ (y : Edge). T (crosses h t y.on)) e g)
   no_way k n x (later e) g = Memᴰ.not-nil e
 
-  anchor : (k : Kind) (s : Bool) → crosses h t k ≡ s → LeadsTo (crosses h t) (edge u k (suc u) ∷ []) (elim s [ true ↦ Two (record { 0 = u + 1 }) (record { 0 = u + 1 }) | false ↦ Nothing ])
+  anchor : (k : Kind) (s : Bool) → crosses h t k ≡ s → LeadsTo (crosses h t) (edge u k (suc u) ∷ []) (then_some s (record { 0 = u + 1 }, record { 0 = u + 1 }))
   anchor k true e = one_way k (rw e tt)
   anchor k false e = no_way k (λ g. rw e at g)
 
-  pub other-targets : (k : ℕ) → k ≢ 1 → k ≢ 2 → k ≢ 3 → targets_of h t k a b u ≡ Nothing
+  pub other-targets : (k : ℕ) → k ≢ 1 → k ≢ 2 → k ≢ 3 → targets_of h t k a b u ≡ None
   unfolding targets_of
   other-targets k n₁ n₂ n₃ = rw (find, ne_eqb k 1 n₁, ne_eqb k 2 n₂, ne_eqb k 3 n₃)
 
@@ -167,13 +167,13 @@ module _ (h t : Bool) (kind to1 to2 : List ℕ) (u : ℕ) (l : u < length kind) 
   from : (v : ℕ) → Goes (crosses h t) (at_node kind to1 to2 u) v → From h t kind to1 to2 u v
   from v g = (g.0, way_in kind to1 to2 u g.0 l g.1, node-from (get_or to1 u 0) (get_or to2 u 0) 0 u (get_or kind u 0) g.0 g.1, g.2, g.3)
 
-  leads : (r : Targets) → r ≡ targets_of h t (get_or kind u 0) (get_or to1 u 0) (get_or to2 u 0) u → LeadsTo (crosses h t) (at_node kind to1 to2 u) r
+  leads : (r : Option (Node × Node)) → r ≡ targets_of h t (get_or kind u 0) (get_or to1 u 0) (get_or to2 u 0) u → LeadsTo (crosses h t) (at_node kind to1 to2 u) r
   leads r e = rw e (node-leads h t (get_or to1 u 0) (get_or to2 u 0) u (get_or kind u 0))
 
 module _ {h t : Bool} {kind to1 to2 : List ℕ} {u : ℕ} (l : u < length kind) where
-  pub leads-two : {a b : Node} → Two a b ≡ targets_of h t (get_or kind u 0) (get_or to1 u 0) (get_or to2 u 0) u → Leads h t kind to1 to2 u a.0 b.0
-  leads-two {a} {b} e = let g : LeadsTo (crosses h t) (at_node kind to1 to2 u) (Two a b) = leads h t kind to1 to2 u l (Two a b) e in
+  pub leads-two : {a b : Node} → Some (a, b) ≡ targets_of h t (get_or kind u 0) (get_or to1 u 0) (get_or to2 u 0) u → Leads h t kind to1 to2 u a.0 b.0
+  leads-two {a} {b} e = let g : LeadsTo (crosses h t) (at_node kind to1 to2 u) (Some (a, b)) = leads h t kind to1 to2 u l (Some (a, b)) e in
       record { one = from h t kind to1 to2 u l a.0 g.0; two = from h t kind to1 to2 u l b.0 g.1; only = λ x m f c. g.2 x (here h t kind to1 to2 u l x m f) c }
 
-  pub leads-nowhere : Nothing ≡ targets_of h t (get_or kind u 0) (get_or to1 u 0) (get_or to2 u 0) u → Bare h t kind to1 to2 u
-  leads-nowhere e = record { none = λ x m f c. leads h t kind to1 to2 u l Nothing e x (here h t kind to1 to2 u l x m f) c }
+  pub leads-nowhere : None ≡ targets_of h t (get_or kind u 0) (get_or to1 u 0) (get_or to2 u 0) u → Bare h t kind to1 to2 u
+  leads-nowhere e = record { none = λ x m f c. leads h t kind to1 to2 u l None e x (here h t kind to1 to2 u l x m f) c }

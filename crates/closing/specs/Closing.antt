@@ -1,14 +1,16 @@
 -- Closing a set of nodes under the edges that are crossed without a byte.
-use Rattle.std.specs.Prelude.{◌≡◌, ◌⊎◌, Bool, true, false, ℕ, suc, ◌+◌, ◌*◌, ◌-◌, ◌≤◌, ◌<◌, ◌^◌, T, length, get_or}
+use Rattle.std.specs.Prelude.{◌≡◌, ◌⊎◌, Bool, true, false, ℕ, suc, ◌+◌, ◌*◌, ◌-◌, ◌≤◌, ◌<◌, ◌^◌, T, length, get_or, Option, Some, None}
 use mathlib.Core.List.{List, [], ◌∷◌, Memᴰ}
+use Rattle.std.specs.Bool.{then_some}
 use Rattle.rules.specs.Tools.{has, with, find}
 use Rattle.nodesets.specs.NodeSets.{mask_of}
 use Rattle.rules.specs.Sizes.{nodes_most, words_a_row}
 use Rattle.rules.specs.Nodes.{Kind, Edge}
 use Rattle.rules.specs.SetRows.{crosses, closed}
 use Rattle.entries.specs.Nodes.{list_edges}
-use Rattle.closing.specs.declared.Targets.{Targets}
-use Rattle.closing.specs.declared.Targets.TheVariants.{Two, Nothing}
+use Rattle.entries.specs.Entries.{kinds_of, firsts_of, seconds_of}
+use Rattle.entries.specs.declared.Entry.{Entry}
+use Rattle.kinds.specs.declared.Node.{Node}
 
 -- the edges of the nodes in the lists; no byte is on those that are on bytes
 unfoldable pub ways : List ℕ → List ℕ → List ℕ → List Edge
@@ -31,14 +33,33 @@ unfoldable pub closing : Bool → Bool → List ℕ → List ℕ → List ℕ �
 closing head tail kind to1 to2 m = closed (crosses head tail) (ways kind to1 to2) (2 ^ length kind) m
 
 -- the targets of the edges that node u has by its kind
-unfoldable pub targets_of : Bool → Bool → ℕ → ℕ → ℕ → ℕ → Targets
+unfoldable pub targets_of : Bool → Bool → ℕ → ℕ → ℕ → ℕ → Option (Node × Node)
 targets_of head tail k a b u =
-    let next : Targets = Two (record { 0 = u + 1 }) (record { 0 = u + 1 }) in
-    find Nothing k (
-    (1, Two (record { 0 = a }) (record { 0 = b }))
-    ∷ (2, elim head [ true ↦ next | false ↦ Nothing ])
-    ∷ (3, elim tail [ true ↦ next | false ↦ Nothing ])
-    ∷ [])
+    let next : Node × Node = (record { 0 = u + 1 }, record { 0 = u + 1 }) in
+    find None k ((1, Some (record { 0 = a }, record { 0 = b })) ∷ (2, then_some head next) ∷ (3, then_some tail next) ∷ [])
+
+-- ---- of the entries
+
+abbrev pub ways_of : List Entry → List Edge
+ways_of l = ways (kinds_of l) (firsts_of l) (seconds_of l)
+
+abbrev pub NodesIn : List Entry → Type 0
+NodesIn l = Nodes (kinds_of l) (firsts_of l) (seconds_of l)
+
+abbrev pub closing_of : Bool → Bool → List Entry → ℕ → ℕ
+closing_of head tail l m = closing head tail (kinds_of l) (firsts_of l) (seconds_of l) m
+
+abbrev pub targets_at : Bool → Bool → List Entry → ℕ → Option (Node × Node)
+targets_at head tail l u = targets_of head tail (get_or (kinds_of l) u 0) (get_or (firsts_of l) u 0) (get_or (seconds_of l) u 0) u
+
+-- ---- a set that is closed
+
+-- the set and what is pending have words for the nodes of these entries, and the set has no others
+pub record SetsFor (l : List Entry) (set pending : List ℕ) : Type 0 where
+  pub nodes : NodesIn l
+  pub wide : Wide (length l) set
+  pub long : length pending ≡ length set
+  pub small : mask_of set < 2 ^ length l
 
 -- v put into m: if it is new it is pending too, and its word is not passed
 abbrev pub Added : ℕ → ℕ → ℕ → ℕ → ℕ → ℕ → ℕ → Type 0

@@ -1,5 +1,5 @@
 -- Columns: noted row by row, then gathered.
-use mathlib.Core.Path.{◌≡◌, refl, sym, ap, ◌∙◌}
+use mathlib.Core.Path.{◌≡◌, sym, ap, ◌∙◌}
 use mathlib.Core.List.{List}
 use Prim.Native.Nat.{ℕ, zero, suc, ◌+◌, ◌*◌, ◌≤◌, ◌<◌}
 use native.Mathlib.Decide.{ℕ_discrete}
@@ -8,34 +8,7 @@ use native.Mathlib.Omega.{arith}
 use borrow.Author.Count.{below_more}
 use lib.ListN.{length, get_or, set, take, length-set}
 use lib.Seq.{get_or-set_same, get_or-set_other, get_or-take, length-take-le}
-use Rattle.columns.specs.Columns.{SameOn, Columns, Begins, RowNoted, InColumn, Gathered}
-
--- ---- one row
-
-pub noted-none : (cells : List ℕ) (q : ℕ) (begins : List ℕ) → RowNoted cells q begins begins 0
-noted-none cells q begins = record { long = refl; noted = λ b l. absurd (omega arith); rest = λ b l. refl }
-
-module _ {cells old new : List ℕ} {q m v : ℕ} (R : RowNoted cells q old new m) where
-  pub noted_more : m + 1 < length new → (v ≡ 0 → (get_or new (m + 1) 0 ≡ 0) × (get_or cells (256 * q + (m + 1)) 0 ≡ get_or cells (256 * q + m) 0))
-      → RowNoted cells q old (set new (m + 1) v) (m + 1)
-  noted_more l h = record {
-    long = length-set new (m + 1) v ∙ R.long;
-    noted = below_more (λ b. get_or (set new (m + 1) v) (b + 1) 0 ≡ 0 → (get_or old (b + 1) 0 ≡ 0) × (get_or cells (256 * q + (b + 1)) 0 ≡ get_or cells (256 * q + b) 0)) m
-        (λ b lb e. R.noted b lb (sym (get_or-set_other new (m + 1) (b + 1) v 0 (omega arith)) ∙ e))
-        (λ e. let x : (get_or new (m + 1) 0 ≡ 0) × (get_or cells (256 * q + (m + 1)) 0 ≡ get_or cells (256 * q + m) 0) = h (sym (get_or-set_same new (m + 1) v 0 l) ∙ e) in
-        (sym (R.rest (m + 1) (omega arith)) ∙ x.0, x.1));
-    rest = λ b lb. get_or-set_other new (m + 1) b v 0 (omega arith) ∙ R.rest b (omega arith);
-  }
-
--- ---- all rows
-
-pub begins-none : (cells begins : List ℕ) → Begins cells begins 0
-begins-none cells begins = record { goes_on = λ b l e q lq. absurd (omega arith) }
-
-pub begins-more : {cells old new : List ℕ} {q : ℕ} → Begins cells old q → RowNoted cells q old new 255 → Begins cells new (q + 1)
-begins-more {cells} {old} {new} {q} B R = record {
-  goes_on = λ b l e. below_more (λ i. get_or cells (256 * i + (b + 1)) 0 ≡ get_or cells (256 * i + b) 0) q (B.goes_on b l (R.noted b l e).0) (R.noted b l e).1;
-}
+use Rattle.columns.specs.Columns.{SameOn, Columns, Begins, InColumn, Gathered}
 
 -- ---- the bytes at which a column begins
 
@@ -46,18 +19,6 @@ pub record Gathering (begins bytes : List ℕ) (many b : ℕ) : Type 0 where
   pub few : many ≤ b + 1
   pub low : b ≤ 255
   pub column : (x : ℕ) → x < b + 1 → (k : ℕ) × (k < many) × InColumn begins bytes k x
-
-pub gathering-none : (begins bytes : List ℕ) → length bytes ≡ 256 → Gathering begins (set bytes 0 0) 1 0
-gathering-none begins bytes e = record {
-  long = length-set bytes 0 0 ∙ e;
-  some = omega arith;
-  few = omega arith;
-  low = omega arith;
-  column = λ x l. (0, omega arith, record { from = omega (arith, first); none = λ y a b. absurd (omega arith) });
-}
-  where
-    first : get_or (set bytes 0 0) 0 0 ≡ 0
-    first = get_or-set_same bytes 0 0 0 (omega arith)
 
 module _ {begins bytes : List ℕ} {many b : ℕ} (G : Gathering begins bytes many b) (l : b < 255) where
   -- another column begins
@@ -93,11 +54,14 @@ module _ {begins bytes : List ℕ} {many b : ℕ} (G : Gathering begins bytes ma
       on : (k : ℕ) × (k < many) × InColumn begins bytes k b → (k : ℕ) × (k < many) × InColumn begins bytes k (b + 1)
       on c = (c.0, c.1, record { from = omega (arith, c.2.from); none = λ y p q. below_more (λ y. get_or bytes c.0 0 ≤ y → get_or begins (y + 1) 0 ≡ 0) b (λ y ly h. c.2.none y h ly) (λ h. e) y q p })
 
-pub gathering-all : {begins bytes : List ℕ} {many b : ℕ} → Gathering begins bytes many b → 255 ≤ b → Gathered begins (take many bytes)
-gathering-all {begins} {bytes} {many} {b} G l = record { column = λ x lx. front x (G.column x (omega arith)) }
+pub gathering-all : {begins bytes : List ℕ} {many b : ℕ} → Gathering begins bytes many b → 255 ≤ b → (many ≤ 256) × Gathered begins (take many bytes)
+gathering-all {begins} {bytes} {many} {b} G l = (omega (arith, G.few, G.low), record { column = λ x lx. front x (G.column x (omega arith)) })
   where
+    long : length (take many bytes) ≡ many
+    long = length-take-le many bytes (omega (arith, G.few, G.low, G.long))
+
     front : (x : ℕ) → (k : ℕ) × (k < many) × InColumn begins bytes k x → (k : ℕ) × (k < length (take many bytes)) × InColumn begins (take many bytes) k x
-    front x c = (c.0, omega (arith, c.1, length-take-le many bytes (omega (arith, G.few, G.low, G.long))), record { from = omega (arith, same, c.2.from); none = λ y p q. c.2.none y (omega (arith, same, p)) q })
+    front x c = (c.0, omega (arith, c.1, long), record { from = omega (arith, same, c.2.from); none = λ y p q. c.2.none y (omega (arith, same, p)) q })
       where
         same : get_or (take many bytes) c.0 0 ≡ get_or bytes c.0 0
         same = get_or-take many bytes c.0 0 c.1

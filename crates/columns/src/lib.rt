@@ -17,10 +17,8 @@ fn note_row(cells: &[u16], q: usize, begins: &mut [u16])
     requires { (256 * q + 256 ≤ length cells.now) × ((q < rows_most) × (length begins.old ≡ 256)) }
     ensures { RowNoted cells.now q begins.old begins.new 255 }
 {
-    let mut b: usize = 0;
-    while b < 255 {
+    for b in 0..255 {
         begins[b + 1] = differ(begins[b + 1], cells[256 * q + (b + 1)], cells[256 * q + b]);
-        b += 1;
     }
 }
 
@@ -29,10 +27,8 @@ fn note_rows(cells: &[u16], n: usize, begins: &mut [u16])
     requires { (length cells.now ≡ 256 * n) × ((n ≤ rows_most) × (length begins.old ≡ 256)) }
     ensures { Begins cells.now begins.new n }
 {
-    let mut q: usize = 0;
-    while q < n {
+    for q in 0..n {
         note_row(cells, q, begins);
-        q += 1;
     }
 }
 
@@ -43,18 +39,17 @@ fn gather(begins: &[u16], bytes: &mut [u8]) -> usize
 {
     bytes[0] = 0;
     let mut many: usize = 1;
-    let mut b: usize = 0;
-    while b < 255 {
+    for b in 0..255 {
         if begins[b + 1] != 0 {
             bytes[many] = (b + 1) as u8;
             many += 1;
         }
-        b += 1;
     }
     many
 }
 
-// The first byte of each column of n rows; how many there are.
+// The first byte of each column of n rows; how many there are. No slice of them is handed back: that would not say what is left in
+// `bytes`.
 pub fn list(cells: &[u16], n: usize, bytes: &mut [u8]) -> usize
     requires { (length cells.now ≡ 256 * n) × ((n ≤ rows_most) × (length bytes.old ≡ 256)) }
     ensures { (result ≤ 256) × Columns cells.now (take result bytes.new) n }

@@ -49,7 +49,8 @@ module _ (p q : List ℕ) where
   unfolding said_of_answers
   verdict-fits = go (drawn p full_room) refl (drawn q full_room) refl
     where
-      tables : (w v : Table) → drawn p full_room ≡ given w → drawn q full_room ≡ given v → (b : Bool) → same_table w v ≡ b → Verdict p q (elim b [ true ↦ same_text | false ↦ different_text ])
+      tables : (w v : Table) → drawn p full_room ≡ given w → drawn q full_room ≡ given v
+          → (b : Bool) → same_table w v ≡ b → Verdict p q (elim b [ true ↦ same_text | false ↦ different_text ])
       tables w v e f true t = same (given-accepted p w e) (given-accepted q v f) ((alike-tables w v e f).0 ((same_tables w v).0 (is_true (same_table w v) t)))
       tables w v e f false t =
           different (given-accepted p w e) (given-accepted q v f) (λ h. is_false (same_table w v) t ((same_tables w v).1 ((alike-tables w v e f).1 h)))

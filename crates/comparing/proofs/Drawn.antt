@@ -2,9 +2,9 @@
 use mathlib.Core.Path.{◌≡◌, sym, ap, ap₂, ◌∙◌}
 use mathlib.Core.Bool.{true, false}
 use mathlib.Core.List.{List}
-use Prim.Native.Nat.{ℕ, ◌-◌, ◌*◌, ◌/◌, min}
+use Prim.Native.Nat.{ℕ, ◌-◌, ◌*◌, ◌/◌, ◌≤◌, min}
 use lib.Dec.{ltb}
-use lib.ListN.{length, replicate, length-replicate}
+use lib.ListN.{length, take, replicate, length-replicate}
 use Rattle.rules.specs.Sizes.{pattern_most, nodes_most, rows_most, words_a_row}
 use Rattle.rules.specs.Nodes.{node_count}
 use Rattle.rules.specs.SetRows.{row_count}
@@ -16,25 +16,25 @@ use Rattle.rules.specs.Demands.{Gives}
 use Rattle.rules.proofs.CompileOnce.{drawn-refuses}
 use Rattle.rules.proofs.Demands.{demands, is-drawn}
 use Rattle.kinds.specs.Refusals.{refusal_of}
-use Rattle.kinds.specs.declared.Row.{Row}
 use Rattle.compile.specs.Outcomes.{Compiles}
-use Rattle.answers.specs.declared.Compiled.{Compiled}
-use Rattle.answers.specs.declared.Compiled.TheVariants as answer
-use Rattle.findings.specs.Lent.{answer_in, HoldsAnswer}
+use Rattle.std.specs.Prelude.{Result, Ok, Err}
+use Rattle.kinds.specs.declared.Refusal.{Refusal}
+use Rattle.answers.specs.declared.Drawn.{Drawn}
 use Rattle.comparing.specs.Comparison.{full_room}
 use Rattle.comparing.specs.Lent.{LentRoom}
 
-module _ {p : List ℕ} {old new : Room} where
-  gives : {rows : ℕ} {head : Row} → Compiles p old new (answer.Table rows head) → Gives p old new rows head.0
-  gives k = record { answer = sym k.answer; room = sym k.room }
+module _ {p : List ℕ} {old new : Room} {r : Result Drawn Refusal} (k : Compiles p old new r) where
+  gives : {d : Drawn} → r ≡ Ok d → Gives p old new d.rows d.head.0
+  gives e = let h = rw e at k in record { answer = sym h.answer; room = sym h.room }
 
-  pub drawn-in : (r : Compiled) → Compiles p old new r → answer_in r new.marks new.cells ≡ drawn p old
-  drawn-in (answer.Table rows head) k = let x = is-drawn (gives k) in ap given x.2 ∙ sym x.1
-  drawn-in (answer.Refused q) k = sym ((drawn-refuses p old (refusal_of q)).1 ((demands.one.compile-refuses p old (refusal_of q)).0 (sym k.answer)))
+  pub table-drawn : {d : Drawn} → r ≡ Ok d → given (record { count = d.rows; head = d.head.0; marks = take d.rows new.marks; cells = take (256 * d.rows) new.cells }) ≡ drawn p old
+  table-drawn e = let x = is-drawn (gives e) in ap given x.2 ∙ sym x.1
 
-  pub holds-answer : (r : Compiled) → Compiles p old new r → HoldsAnswer r new.marks new.cells
-  holds-answer (answer.Table rows head) k = let f = (demands.two p old new rows head.0 (gives k)).well-formed in record { marks-long = f.formed.marks-long; cells-long = f.formed.cells-long }
-  holds-answer (answer.Refused q) k = tt
+  pub table-formed : {d : Drawn} → r ≡ Ok d → (d.rows ≤ length new.marks) × (256 * d.rows ≤ length new.cells)
+  table-formed {d} e = let f = (demands.two p old new d.rows d.head.0 (gives e)).well-formed.formed in (f.marks-long, f.cells-long)
+
+  pub refusal-drawn : {q : Refusal} → r ≡ Err q → refused (refusal_of q) ≡ drawn p old
+  refusal-drawn {q} e = let h = rw e at k in sym ((drawn-refuses p old (refusal_of q)).1 ((demands.one.compile-refuses p old (refusal_of q)).0 (sym h.answer)))
 
 -- ---- only the number of rows for which there is room counts
 

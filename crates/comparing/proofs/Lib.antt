@@ -1,4 +1,3 @@
-pub mod ByPlace
 pub mod Drawn
 pub mod LineLaws
 pub mod LinesOnce

@@ -1,14 +1,16 @@
 -- An input's lines, case by case.
-use mathlib.Core.Path.{◌≡◌, ap, ◌∙◌}
+use mathlib.Core.Path.{◌≡◌, refl, ap, ◌∙◌}
 use mathlib.Core.Bool.{Bool, true, false}
 use mathlib.Core.List.{List, [], ◌∷◌}
 use Prim.Native.Nat.{ℕ, suc, ◌+◌, ◌-◌, ◌≤◌, ◌<◌}
 use native.Mathlib.Numerals.{add-one}
 use native.Mathlib.Omega.{arith}
-use borrow.Author.Tests.{lt-ltb, le-ltb, le-leb, lt-leb}
-use lib.Dec.{eqb}
+use borrow.Author.Tests.{ltb-false, lt-ltb, le-ltb, le-leb, lt-leb}
+use lib.Dec.{ltb, eqb}
 use lib.ListN.{length, take, drop, length-drop}
 use lib.Seq.{take_all}
+use Rattle.std.specs.Prelude.{Option, Some, None, cond, not, unwrap_or}
+use Rattle.std.specs.List.{position_or_len}
 use Rattle.rules.specs.Sizes.{pattern_most}
 use Rattle.writing.proofs.Cases.{if-true, if-false}
 use Rattle.comparing.specs.Lines.{line_end_in, line_of, long, two, other, second_of, lines_of}
@@ -20,6 +22,26 @@ end-within (b ∷ s) = go (eqb b 10) (end-within s)
     go : (t : Bool) → line_end_in s ≤ length s → elim t [ true ↦ 0 | false ↦ suc (line_end_in s) ] ≤ suc (length s)
     go true h = omega arith
     go false h = omega arith
+
+-- as the library's search for it finds it
+end-found : (s : List ℕ) → position_or_len (λ b. eqb b 10) s ≡ line_end_in s
+end-found [] = refl
+end-found (b ∷ s) = go (eqb b 10) (end-found s)
+  where
+    go : (t : Bool) → position_or_len (λ b. eqb b 10) s ≡ line_end_in s
+        → ◌≡◌ {A = ℕ} (cond (not t) (1 + position_or_len (λ b. eqb b 10) s) 0) (elim t [ true ↦ 0 | false ↦ suc (line_end_in s) ])
+    go true h = refl
+    go false h = omega (arith, h)
+
+pub end-or-length : (s : List ℕ) (r : Option ℕ) → (let n = position_or_len (λ b. eqb b 10) s in r ≡ cond (ltb n (length s)) (Some n) None) → unwrap_or r (length s) ≡ line_end_in s
+end-or-length s r e = ap (λ (o : Option ℕ). unwrap_or o (length s)) e ∙ go (position_or_len (λ b. eqb b 10) s) (omega (arith, end-found s, end-within s)) ∙ end-found s
+  where
+    go : (n : ℕ) → n ≤ length s → unwrap_or (cond (ltb n (length s)) (Some n) None) (length s) ≡ n
+    go n h = at (ltb n (length s)) refl
+      where
+        at : (t : Bool) → ltb n (length s) ≡ t → unwrap_or (cond t (Some n) None) (length s) ≡ n
+        at true e = refl
+        at false e = omega (arith, ltb-false n (length s) e)
 
 -- what is lent on after the line end at the place n
 pub after-end : (s : List ℕ) (n : ℕ) → take (length s - (n + 1)) (drop (n + 1) s) ≡ drop (suc n) s

@@ -1,5 +1,5 @@
 -- Classes cut by one group after the other.
-use mathlib.Core.Path.{◌≡◌, refl, sym, ◌∙◌}
+use mathlib.Core.Path.{◌≡◌, sym, ◌∙◌}
 use mathlib.Core.Logic.{inl, inr, ⊎_elim}
 use mathlib.Core.List.{List}
 use Prim.Native.Nat.{ℕ, ◌+◌, ◌-◌, ◌≤◌, ◌<◌}
@@ -8,10 +8,16 @@ use native.Mathlib.Omega.{arith}
 use borrow.Author.Tests.{ltb-false, lt-ltb, le-ltb}
 use lib.Dec.{ltb}
 use lib.ListN.{length, get_or}
-use Rattle.chains.specs.Chains.{Labelled, Grouped}
+use Rattle.chains.specs.Chains.{Labelled}
+use Rattle.chains.specs.Lent.{Labelled_in, Grouped_in}
+use Rattle.chains.specs.declared.Groups.{Groups}
 use Rattle.chains.proofs.ChainLaws.{label-cases}
 use Rattle.stretches.specs.Stretches.{Placed, Stretches, Inside, CutAt}
+use Rattle.stretches.specs.Lent.{SameLists, CutAt_in}
+use Rattle.stretches.specs.declared.Classes.{Classes}
+use Rattle.stretches.proofs.LentLaws.{same-lists-then}
 use Rattle.cutting.specs.Cutting.{CutOff, CutTo, Standing}
+use Rattle.cutting.specs.Lent.{Standing_in, CutOff_in}
 use Rattle.cutting.proofs.MoveLaws.{Moving, moved_in, moved_out, Carried}
 
 -- ---- one group
@@ -78,24 +84,11 @@ module _ {label class seen prior last : List ℕ} {n count groups : ℕ} (L : La
           go (no a) (no b) = le-ltb (get_or place i 0) at (omega arith) ∙ sym (le-ltb (get_or place j 0) at (omega arith))
 
 -- whatever the labels are
-pub cut-here : {class seen prior last order place start end : List ℕ} {n many groups g c x at : ℕ} → Carried class seen prior last order place start end n many groups g c x at → g < groups → x ≡ 0
-    → {class' start' end' : List ℕ} {many' : ℕ} → Stretches order class' start' end' (length order) many' × CutAt order class class' (length order) c at many many'
-    → Standing order place class' start' end' n many' × ((label : List ℕ) (count : ℕ) → Labelled label class seen prior last n count groups → CutOff label class class' n g many many')
-cut-here {class} {order = order} {n = n} {many = many} {c = c} {at = at} K g-in e {class'} {start'} {end'} {many'} R = (
-  record { placed = K.standing.placed; stretches = rw K.standing.placed.order-long at R.0 },
-  λ label count L. cut_off L g-in K.standing (K.moving label count L) e (rw K.standing.placed.order-long at R.1),
-)
+module _ {old new : Classes} {groups : Groups} {many count g c x at : ℕ} (K : Carried old new groups many count g c x at) where
+  pub cut-here : (new' : Classes) {many' : ℕ} → g < count → x ≡ 0 → CutAt_in new new' (length new.order.now) c at many many' → CutOff_in old new' groups (length old.order.now) count g many many'
+  cut-here new' {many'} g-in e C label rows L = cut_off L g-in K.standing (K.moving label rows L) e (rw (K.standing.placed.order-long, K.kept.0) at C)
 
 -- ---- one group after the other
-
-cut-none : (label class : List ℕ) (n many : ℕ) → CutTo label class class n 0 many many
-cut-none label class n many = record {
-  finer = λ i j li lj e. e;
-  parted = λ i j li lj e l. absurd (omega arith);
-  fair = λ i j li lj e h. e;
-  new = λ i l. inl refl;
-  more = omega arith;
-}
 
 module _ {label class₀ class : List ℕ} {n g many₀ many : ℕ} (C : CutTo label class₀ class n g many₀ many) where
   cut-more : {class' : List ℕ} {many' : ℕ} → CutOff label class class' n g many many' → CutTo label class₀ class' n (g + 1) many₀ many'
@@ -136,35 +129,21 @@ cut-whole L C i j li lj e = ⊎_elim (λ l. C.parted i j li lj e l) (λ a. ⊎_e
 
 -- ---- whatever the labels are: the groups before group g are cut
 
-pub record CutBefore (class₀ seen prior last order place class start end : List ℕ) (n many₀ groups g many : ℕ) : Type 0 where
-  pub few : g ≤ groups
-  pub standing : Standing order place class start end n many
-  pub cut : (label : List ℕ) (count : ℕ) → Labelled label class₀ seen prior last n count groups → CutTo label class₀ class n g many₀ many
+pub record CutBefore (old new : Classes) (groups : Groups) (many₀ count g many : ℕ) : Type 0 where
+  pub same-lists : SameLists old new
+  pub few : g ≤ count
+  pub standing : Standing_in new (length old.order.now) many
+  pub cut : (label : List ℕ) (rows : ℕ) → Labelled_in label old.class.now groups (length old.order.now) rows count → CutTo label old.class.now new.class.now (length old.order.now) g many₀ many
 
-pub uncut : {order place class start end : List ℕ} {n many : ℕ} (seen prior last : List ℕ) (groups : ℕ) → Standing order place class start end n many
-    → CutBefore class seen prior last order place class start end n many groups 0 many
-uncut {class = class} {n = n} {many = many} seen prior last groups S = record { few = omega arith; standing = S; cut = λ label count L. cut-none label class n many }
+module _ {old new : Classes} {groups : Groups} {many₀ count g many : ℕ} (B : CutBefore old new groups many₀ count g many) where
+  pub still-grouped : Grouped_in old.class.now groups (length old.order.now) count → Grouped_in new.class.now groups (length new.order.now) count
+  still-grouped G = rw B.standing.placed.order-long (record { label = G.label; count = G.count; labelled = labelled-still (B.cut G.label G.count G.labelled) G.labelled })
 
-module _ {class₀ seen prior last order place class start end : List ℕ} {n many₀ groups g many : ℕ} (B : CutBefore class₀ seen prior last order place class start end n many₀ groups g many) where
-  -- what `cut_group` asks, and what follows
-  pub to-cut-group : Grouped class₀ seen prior last n groups → g < groups
-      → Standing order place class start end (length order) many × (Grouped class seen prior last (length order) groups × (g < groups))
-  to-cut-group G l = rw B.standing.placed.order-long (
-    B.standing,
-    (record { label = G.label; count = G.count; labelled = labelled-still (B.cut G.label G.count G.labelled) G.labelled }, l),
-  )
-
-  pub cut-next : {order' place' class' start' end' : List ℕ} {many' : ℕ} → g < groups
-      → Standing order' place' class' start' end' (length order) many'
-      × ((label : List ℕ) (count : ℕ) → Labelled label class seen prior last (length order) count groups → CutOff label class class' (length order) g many many')
-      → CutBefore class₀ seen prior last order' place' class' start' end' n many₀ groups (g + 1) many'
-  cut-next l R = record {
+  pub cut-next : {new' : Classes} {many' : ℕ} → g < count → SameLists new new' → Standing_in new' (length new.order.now) many' → CutOff_in new new' groups (length new.order.now) count g many many'
+      → CutBefore old new' groups many₀ count (g + 1) many'
+  cut-next l N S O = record {
+    same-lists = same-lists-then B.same-lists N;
     few = omega arith;
-    standing = rw B.standing.placed.order-long at R.0;
-    cut = λ label count L. cut-more (B.cut label count L) ((rw B.standing.placed.order-long at R.1) label count (labelled-still (B.cut label count L) L));
+    standing = rw B.standing.placed.order-long at S;
+    cut = λ label rows L. cut-more (B.cut label rows L) ((rw B.standing.placed.order-long at O) label rows (labelled-still (B.cut label rows L) L));
   }
-
-  pub all-cut : groups ≤ g
-      → Standing order place class start end n many × ((label : List ℕ) (count : ℕ) → Labelled label class₀ seen prior last n count groups → CutTo label class₀ class n groups many₀ many)
-  all-cut l = let e : g ≡ groups = omega (arith, B.few) in
-      (B.standing, λ label count L. rw e at (B.cut label count L))

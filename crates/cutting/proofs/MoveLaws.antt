@@ -1,15 +1,22 @@
 -- The rows of a group moved to the end of their class's stretch, from the last to the first.
-use mathlib.Core.Path.{◌≡◌, sym, ap, ◌∙◌}
+use mathlib.Core.Path.{◌≡◌, refl, sym, ap, ◌∙◌}
 use mathlib.Core.Logic.{◌≢◌, ⊎_elim}
 use mathlib.Core.List.{List}
 use Prim.Native.Nat.{ℕ, ◌-◌, ◌≤◌, ◌<◌}
 use native.Mathlib.Decide.{ℕ_discrete, dec_lt}
 use native.Mathlib.Omega.{arith}
 use lib.ListN.{length, get_or, get_or-eq_default}
-use Rattle.chains.specs.Chains.{Latest, label_at, Labelled, Grouped}
+use Rattle.rules.specs.Sizes.{rows_most}
+use Rattle.chains.specs.Chains.{Latest, label_at, Labelled}
+use Rattle.chains.specs.Lent.{Labelled_in, Grouped_in}
+use Rattle.chains.specs.declared.Groups.{Groups}
 use Rattle.chains.proofs.ChainLaws.{count_fits}
 use Rattle.stretches.specs.Stretches.{Placed, Swapped, Stretches, Inside}
+use Rattle.stretches.specs.Lent.{SameLists, ClassesKept, Placed_in, Swapped_in, Stretches_in, Inside_in}
+use Rattle.stretches.specs.declared.Classes.{Classes}
+use Rattle.stretches.proofs.LentLaws.{same-lists-none, same-lists-then}
 use Rattle.cutting.specs.Cutting.{Standing}
+use Rattle.cutting.specs.Lent.{Standing_in}
 
 -- ---- two rows change places
 
@@ -85,10 +92,13 @@ module _ {order place class start end : List ℕ} {n many : ℕ} (S : Standing o
       go (yes h) = h
       go (no h) = absurd (omega (arith, S.stretches.some c l, get_or-eq_default end 0 {n = c} (omega arith)))
 
--- the same whatever the labels are
-pub record Carried (class seen prior last order place start end : List ℕ) (n many groups g c x at : ℕ) : Type 0 where
-  pub standing : Standing order place class start end n many
-  pub moving : (label : List ℕ) (count : ℕ) → Labelled label class seen prior last n count groups → Moving label class seen place start end n count many g c x at
+-- the same whatever the labels are, while only places change
+pub record Carried (old new : Classes) (groups : Groups) (many count g c x at : ℕ) : Type 0 where
+  pub same-lists : SameLists old new
+  pub kept : ClassesKept old new
+  pub standing : Standing new.order.now new.place.now old.class.now old.start.now old.end.now (length old.order.now) many
+  pub moving : (label : List ℕ) (rows : ℕ) → Labelled_in label old.class.now groups (length old.order.now) rows count
+      → Moving label old.class.now groups.seen.now new.place.now old.start.now old.end.now (length old.order.now) rows many g c x at
 
 module _ {label class seen prior last : List ℕ} {n count groups : ℕ} (L : Labelled label class seen prior last n count groups) {g : ℕ} (g-in : g < groups) where
   -- the last row of a group
@@ -208,68 +218,72 @@ module _ {label class seen prior last : List ℕ} {n count groups : ℕ} (L : La
 -- ---- what the code has to know
 
 -- of the last row of group g
-pub record First (class seen last end : List ℕ) (g : ℕ) : Type 0 where
-  pub last-long : g < length last
-  pub some : 0 < get_or last g 0
-  pub place : get_or last g 0 - 1 < length seen
-  pub row : get_or seen (get_or last g 0 - 1) 0 < length class
-  pub number : get_or class (get_or seen (get_or last g 0 - 1) 0) 0 < length end
+pub record First (classes : Classes) (groups : Groups) (g : ℕ) : Type 0 where
+  pub last-long : g < length groups.last.now
+  pub some : 0 < get_or groups.last.now g 0
+  pub place : get_or groups.last.now g 0 - 1 < length groups.seen.now
+  pub row : get_or groups.seen.now (get_or groups.last.now g 0 - 1) 0 < length classes.class.now
+  pub number : get_or classes.class.now (get_or groups.seen.now (get_or groups.last.now g 0 - 1) 0) 0 < length classes.end.now
+  pub few : length classes.class.now ≤ rows_most
 
 -- of the next row to be moved
-pub record Next (seen prior : List ℕ) (n x at : ℕ) : Type 0 where
-  pub seen-long : x - 1 < length seen
-  pub prior-long : x - 1 < length prior
-  pub row : get_or seen (x - 1) 0 < n
+pub record Next (groups : Groups) (n x at : ℕ) : Type 0 where
+  pub seen-long : x - 1 < length groups.seen.now
+  pub prior-long : x - 1 < length groups.prior.now
+  pub row : get_or groups.seen.now (x - 1) 0 < n
   pub some : 0 < at
   pub place : at - 1 < n
-  pub less : get_or prior (x - 1) 0 < x
+  pub less : get_or groups.prior.now (x - 1) 0 < x
 
-module _ {class seen prior last : List ℕ} {n groups g : ℕ} (G : Grouped class seen prior last n groups) (g-in : g < groups) where
-  L : Labelled G.label class seen prior last n G.count groups
-  L = G.labelled
-
-  pub first : {order place start end : List ℕ} {many : ℕ} → Standing order place class start end n many → First class seen last end g
-  first {end = end} S = let r-in : get_or seen (get_or last g 0 - 1) 0 < n = L.seen-in (get_or last g 0 - 1) (omega (arith, last_row L g-in)) in
+module _ (old : Classes) (groups : Groups) {many count g : ℕ} (S : Standing_in old (length old.order.now) many) (G : Grouped_in old.class.now groups (length old.order.now) count × (g < count)) where
+  pub first : First old groups g
+  first = let L = G.0.labelled in
+      let r-in : get_or groups.seen.now (get_or groups.last.now g 0 - 1) 0 < length old.order.now = L.seen-in (get_or groups.last.now g 0 - 1) (omega (arith, last_row L G.1)) in
       record {
-        last-long = omega (arith, L.last-long);
-        some = omega (arith, last_row L g-in);
-        place = omega (arith, last_row L g-in, L.seen-long);
+        last-long = omega (arith, L.last-long, G.1);
+        some = omega (arith, last_row L G.1);
+        place = omega (arith, last_row L G.1, L.seen-long);
         row = omega (arith, S.stretches.class-long);
-        number = class-in S (class_low S (get_or seen (get_or last g 0 - 1) 0) r-in);
+        number = class-in S (class_low S (get_or groups.seen.now (get_or groups.last.now g 0 - 1) 0) r-in);
+        few = omega (arith, S.stretches.class-long, S.stretches.few);
       }
 
-  module _ {order place start end : List ℕ} {many c x at : ℕ} (K : Carried class seen prior last order place start end n many groups g c x at) where
-    M : Moving G.label class seen place start end n G.count many g c x at
-    M = K.moving G.label G.count L
+  pub carried_none : Carried old old groups many count g (get_or old.class.now (get_or groups.seen.now (get_or groups.last.now g 0 - 1) 0) 0) (get_or groups.last.now g 0)
+      (get_or old.end.now (get_or old.class.now (get_or groups.seen.now (get_or groups.last.now g 0 - 1) 0) 0) 0)
+  carried_none = record { same-lists = same-lists-none old; kept = (refl, refl, refl); standing = S; moving = λ label rows N. moving-none N G.1 S refl }
 
-    pub next : x ≢ 0 → Next seen prior n x at
-    next more = record {
-      seen-long = omega (arith, next-in L g-in K.standing M more, L.seen-long);
-      prior-long = omega (arith, next-in L g-in K.standing M more, L.prior-long);
-      row = row_in L g-in K.standing M more;
-      some = at_some L g-in K.standing M more;
-      place = at_in L g-in K.standing M more;
-      less = omega (arith, prior-before L g-in K.standing M more);
-    }
+module _ {old new : Classes} {groups : Groups} {many count g c x at : ℕ} (K : Carried old new groups many count g c x at)
+    (G : Grouped_in old.class.now groups (length old.order.now) count × (g < count)) where
+  M : Moving G.0.label old.class.now groups.seen.now new.place.now old.start.now old.end.now (length old.order.now) G.0.count many g c x at
+  M = K.moving G.0.label G.0.count G.0.labelled
 
-    -- what `swap` asks, and what follows
-    pub to-swap : x ≢ 0 → Placed order place (length order) × ((get_or seen (x - 1) 0 < length order) × (at - 1 < length order))
-    to-swap more = rw K.standing.placed.order-long (K.standing.placed, ((next more).row, (next more).place))
+  pub next : x ≢ 0 → Next groups (length new.order.now) x at
+  next more = let L = G.0.labelled in
+      record {
+        seen-long = omega (arith, next-in L G.1 K.standing M more, L.seen-long);
+        prior-long = omega (arith, next-in L G.1 K.standing M more, L.prior-long);
+        row = omega (arith, row_in L G.1 K.standing M more, K.standing.placed.order-long);
+        some = at_some L G.1 K.standing M more;
+        place = omega (arith, at_in L G.1 K.standing M more, K.standing.placed.order-long);
+        less = omega (arith, prior-before L G.1 K.standing M more);
+      }
 
-    pub carried-next : {order' place' : List ℕ} → x ≢ 0 → Swapped order place order' place' (length order) (get_or seen (x - 1) 0) (at - 1)
-        → Carried class seen prior last order' place' start end n many groups g c (get_or prior (x - 1) 0) (at - 1)
-    carried-next {order'} {place'} more W = record {
-      standing = standing-next L g-in K.standing M more swapped;
-      moving = λ label count N. moving-next N g-in K.standing (K.moving label count N) more swapped;
-    }
-      where
-        swapped : Swapped order place order' place' n (get_or seen (x - 1) 0) (at - 1)
-        swapped = rw K.standing.placed.order-long at W
+  -- what `swap` asks, and what follows
+  pub to-swap : x ≢ 0 → Placed_in new (length new.order.now) × (get_or groups.seen.now (x - 1) 0 < length new.order.now) × (at - 1 < length new.order.now)
+  to-swap more = (rw K.standing.placed.order-long K.standing.placed, (next more).row, (next more).place)
 
-    -- what `cut` asks
-    pub to-cut : Stretches order class start end (length order) many × Inside start end c at many
-    to-cut = rw K.standing.placed.order-long (K.standing.stretches, M.inside)
+  pub carried-next : {new' : Classes} → x ≢ 0 → SameLists new new' → ClassesKept new new' → Swapped_in new new' (length new.order.now) (get_or groups.seen.now (x - 1) 0) (at - 1)
+      → Carried old new' groups many count g c (get_or groups.prior.now (x - 1) 0) (at - 1)
+  carried-next {new'} more N H W = record {
+    same-lists = same-lists-then K.same-lists N;
+    kept = (H.0 ∙ K.kept.0, H.1 ∙ K.kept.1, H.2 ∙ K.kept.2);
+    standing = standing-next G.0.labelled G.1 K.standing M more swapped;
+    moving = λ label rows L. moving-next L G.1 K.standing (K.moving label rows L) more swapped;
+  }
+    where
+      swapped : Swapped_in new new' (length old.order.now) (get_or groups.seen.now (x - 1) 0) (at - 1)
+      swapped = rw K.standing.placed.order-long at W
 
-pub carried_none : {class order place start end : List ℕ} {n many c : ℕ} (seen prior last : List ℕ) (groups g : ℕ) → Standing order place class start end n many → g < groups
-    → c ≡ get_or class (get_or seen (get_or last g 0 - 1) 0) 0 → Carried class seen prior last order place start end n many groups g c (get_or last g 0) (get_or end c 0)
-carried_none seen prior last groups g S g-in e = record { standing = S; moving = λ label count N. moving-none N g-in S e }
+  -- what `cut` asks
+  pub to-cut : Stretches_in new (length new.order.now) many × Inside_in new c at many
+  to-cut = rw (K.standing.placed.order-long, K.kept.0, K.kept.1, K.kept.2) (K.standing.stretches, M.inside)

@@ -9,14 +9,12 @@ use Rattle.rules.specs.Compile.{Room, CompileRefusals}
 use Rattle.rules.specs.Matchers.{PastEnd, FewPlaces, MatchRefusals, Part, part_of, Listed, part_answer, starts_answer}
 use Rattle.rules.specs.Demands.{Refuses, RefusesBy, AllZero, lent, MatchersRight, Gives}
 use Rattle.rules.proofs.Demands.{demands}
-use Rattle.kinds.specs.declared.Row.{Row}
+use Rattle.std.specs.Prelude.{Ok}
 use Rattle.first.specs.Parts.{HandsBack}
 use Rattle.answers.specs.Answers.{starts_of, listed_of, compiled_of}
-use Rattle.answers.specs.declared.Starts.{Starts}
 use Rattle.compile.specs.Outcomes.{Compiles}
-use Rattle.answers.specs.declared.Compiled.{Compiled}
-use Rattle.answers.specs.declared.Compiled.TheVariants as compiled
-use Rattle.demands.specs.Functions.{MatchersKept, FunctionsKeep}
+use Rattle.answers.specs.declared.Drawn.{Drawn}
+use Rattle.demands.specs.Functions.{Answered, MatchersKept, FunctionsKeep}
 
 -- ---- 1
 
@@ -24,7 +22,7 @@ use Rattle.demands.specs.Functions.{MatchersKept, FunctionsKeep}
 refuses-too : {A : Type 0} (Cs : List (Refusal → Type 0)) {x y : Answer A} → x ≡ y → Refuses Cs y → Refuses Cs x
 refuses-too {A} Cs e h = subst {A = Answer A} (λ a. Refuses Cs a) (sym e) h
 
-compile-kept : (p : List ℕ) (old new : Room) (r : Compiled) → Compiles p old new r
+compile-kept : (p : List ℕ) (old new : Room) (r : Answered Drawn) → Compiles p old new r
     → Refuses (CompileRefusals p old) (compiled_of r) × ((x : Refusal) → FirstDue (CompileRefusals p old) x → AllZero old new)
 compile-kept p old new r c = (
   refuses-too (CompileRefusals p old) c.answer (demands.one.compile-refuses p old),
@@ -43,7 +41,7 @@ part-kept w t r number h = (
   λ x d. handed-as (demands.one.part-empty w t.now x d) h,
 )
 
-starts-kept : (w : Table) (t list new : List ℕ) (r : Starts) → listed_of r new ≡ starts_answer w t list
+starts-kept : (w : Table) (t list new : List ℕ) (r : Answered ℕ) → listed_of r new ≡ starts_answer w t list
     → Refuses (MatchRefusals w t (FewPlaces w t list ∷ [])) (starts_of r) × ((x : Refusal) → FirstDue (MatchRefusals w t (FewPlaces w t list ∷ [])) x → new ≡ list)
 starts-kept w t list new r h = (
   refuses-too (MatchRefusals w t (FewPlaces w t list ∷ [])) (ap (λ (o : Listed). o.answer) h) (demands.one.starts-refuses w t list),
@@ -52,7 +50,7 @@ starts-kept w t list new r h = (
 
 -- ---- 2 and 3
 
-gives : {p : List ℕ} {old new : Room} {rows : ℕ} {head : Row} → Compiles p old new (compiled.Table rows head) → Gives p old new rows head.0
+gives : {p : List ℕ} {old new : Room} {d : Drawn} → Compiles p old new (Ok d) → Gives p old new d.rows d.head.0
 gives c = record { answer = sym c.answer; room = sym c.room }
 
 matchers-kept : (p : List ℕ) (w : Table) (t : List ℕ) → MatchersRight p w t → MatchersKept p w t
@@ -74,8 +72,8 @@ functions-keep = record {
     first_part = part-kept;
     starts = starts-kept;
   };
-  two = λ p old new rows head c. demands.two p old new rows head.0 (gives c);
-  two-matchers = λ p old new rows head c t b l. matchers-kept p (lent new rows head.0) t ((demands.two p old new rows head.0 (gives c)).matchers t b l);
-  three = λ p old new rows head c. demands.three p old new rows head.0 (gives c);
-  three-same = λ p q old new old' new' rows rows' head head' c d. demands.three-same p q old new old' new' rows head.0 rows' head'.0 (gives c) (gives d);
+  two = λ p old new d c. demands.two p old new d.rows d.head.0 (gives c);
+  two-matchers = λ p old new d c t b l. matchers-kept p (lent new d.rows d.head.0) t ((demands.two p old new d.rows d.head.0 (gives c)).matchers t b l);
+  three = λ p old new d c. demands.three p old new d.rows d.head.0 (gives c);
+  three-same = λ p q old new old' new' d e c f. demands.three-same p q old new old' new' d.rows d.head.0 e.rows e.head.0 (gives c) (gives f);
 }

@@ -1,5 +1,5 @@
 -- How long a graph gets.
-use mathlib.Core.Path.{◌≡◌, refl, ap}
+use mathlib.Core.Path.{◌≡◌, refl, sym, ap}
 use mathlib.Core.Bool.{Bool, true, false, ◌||◌}
 use Prim.Native.Nat.{ℕ, ◌+◌, ◌*◌, ◌≤◌, ◌<◌}
 use native.Mathlib.Decide.{ℕ_discrete}
@@ -9,6 +9,7 @@ use lib.ListN.{length, get_or, length-append}
 use Rattle.rules.specs.Table.{Table, fits, WellFormed}
 use Rattle.rules.specs.Listing.{decimal, Run}
 use Rattle.writing.proofs.Numbers.{decimal-short}
+use Rattle.writing.proofs.RowLaws.{part_slice}
 use Rattle.writing.proofs.Lengths.{rows-most, number_short, row-runs-most}
 use Rattle.dot.specs.Dot.{is_trap, byte_text, bytes_text, arrow_unless_trap, shape, row_dot, dot}
 use Rattle.dot.proofs.DotLaws.{byte-digits, byte-behind, byte-itself, bytes_one, bytes-more, shape-match, shape-end, shape-plain, arrow-none, arrow-one, row-none, row_one}
@@ -50,7 +51,7 @@ module _ {w : Table} (f : WellFormed w) {q : ℕ} (h : q < w.count) where
       go : (t : Bool) → is_trap w q ≡ t → length (row_dot w q) ≤ 8219
       go true e = omega (arith, ap length (row-none w q e))
       go false e =
-          rw (row_one w q e)
+          rw (row_one w q e, sym (part_slice (256 * q) (256 * q + 256) w.cells))
           (simp length-append (omega (arith, number_short f h, shape-most q (get_or w.marks q 0) (number_short f h), row-runs-most f h (arrow_unless_trap w q) 32 arrow-most)))
 
 pub dot-most : {w : Table} → WellFormed w → length (dot w) ≤ 152 + 8219 * w.count

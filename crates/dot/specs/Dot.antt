@@ -1,5 +1,5 @@
 -- A table as a graph for Graphviz, in its language dot.
-use Rattle.std.specs.Prelude.{Bool, true, false, not, ◌&&◌, ◌||◌, List, [], ◌∷◌, ◌++◌, map, ℕ, ◌+◌, ◌*◌, ◌/◌, ◌%◌, ◌≤◌, ◌<◌, ltb, eqb, length, get_or}
+use Rattle.std.specs.Prelude.{Bool, true, false, not, ◌&&◌, ◌||◌, List, [], ◌∷◌, ◌++◌, map, ℕ, ◌+◌, ◌*◌, ◌/◌, ◌%◌, ltb, eqb, get_or}
 use Prim.Native.String.{String}
 use Rattle.std.proofs.Math.Seq.{slice}
 use Rattle.rules.specs.Tools.{bytes_of, up_from, all, flat}
@@ -7,11 +7,6 @@ use Rattle.rules.specs.Table.{Table, fits}
 use Rattle.rules.specs.Answers.{Answer}
 use Rattle.rules.specs.Listing.{line_end, decimal, Run, runs}
 use Rattle.writing.specs.Texts.{if_formed}
-
--- a row whose mark and cells are lent
-pub record Lent (cells marks : List ℕ) (q : ℕ) : Type 0 where
-  pub marked : q < length marks
-  pub celled : 256 * q + 256 ≤ length cells
 
 -- a row that no reading leaves and in which no match ends, unless reading begins there
 unfoldable pub is_trap : Table → ℕ → Bool

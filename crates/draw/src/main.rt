@@ -7,25 +7,37 @@ ghost use Rattle.io.specs.Counts.{IsPrefixLen};
 ghost use Rattle.writing.specs.Texts.{shown, shown_in};
 ghost use Rattle.draw.specs.Graphs.{graph_of, graph_most};
 
-use answers::{Compiled, Text};
-use kinds::{PATTERN_MOST, WORDS_A_ROW};
-use streams::Input;
+use answers::Written;
+use kinds::{PATTERN_MOST, Refusal, WORDS_A_ROW};
+use table::Lent;
+use writing::whole_length;
 
 // Rows for which there is room.
 const ROWS: usize = 64;
 
-// The text for an input, compiled with room for 64 rows.
-fn graph(input: &[u8], out: &mut [u8]) -> Text
+// Bytes that hold the text.
+const GRAPH_MOST: usize = 1048576;
+
+// The text for an input, compiled with room for 64 rows. `list` has the same of its listing: a function for both, over the writer,
+// would be no shorter.
+fn graph(input: &[u8], out: &mut [u8]) -> Result<Written, Refusal>
     ensures { shown result out.new ≡ shown_in out.old (graph_of input.now) }
 {
     let mut cells = [0u16; 256 * ROWS];
     let mut marks = [0u8; ROWS];
     let mut sets = [0u64; WORDS_A_ROW * ROWS];
     let pattern = lines::pattern_of(input);
-    let made = compile::compile(pattern, &mut cells, &mut marks, &mut sets);
-    match made {
-        Compiled::Table(rows, head) => dot::write_dot(rows, head, &cells, &marks, out),
-        Compiled::Refused(refusal) => lines::write_refusal(refusal, out),
+    match compile::compile(pattern, &mut cells, &mut marks, &mut sets) {
+        Ok(drawn) => {
+            let table = Lent {
+                rows: drawn.rows,
+                head: drawn.head,
+                cells: &cells,
+                marks: &marks,
+            };
+            dot::write_dot(&table, out)
+        }
+        Err(refusal) => Ok(lines::write_refusal(refusal, out)),
     }
 }
 
@@ -35,44 +47,26 @@ fn graph_whole(input: &[u8], out: &mut [u8]) -> usize
     ensures out_after { given (take result out.new) ≡ graph_of input.now }
     ensures prefix_len { IsPrefixLen result out.new }
 {
-    let text = graph(input, out);
-    match text {
-        Text::Written(n) => n as usize,
-        Text::Longer(_) => 0,
-        Text::Refused(_) => 0,
-    }
+    whole_length(graph(input, out))
 }
 
-// Zeros for what is written. The promise is their number, which lending them as a slice asks.
-fn buffer() -> [u8; 1048576]
+// Zeros for what is written, in a function of their own: a proof that sees so many runs out of room.
+fn buffer() -> [u8; GRAPH_MOST]
     ensures { graph_most ≡ length result }
 {
-    [0; 1048576]
-}
-
-// Writes the text to standard output.
-fn write(output: &impl Print, error: &impl Print, input: &[u8]) {
-    let mut out = buffer();
-    let length = graph_whole(input, &mut out);
-    streams::write_output(
-        output,
-        error,
-        &out[..length],
-        b"draw: standard output can't be written\n",
-    );
+    [0; GRAPH_MOST]
 }
 
 // 1,026 bytes of the input are enough: a longer one is too long for a pattern.
 fn main(rt: HostRuntime) {
     let mut input = [0u8; PATTERN_MOST + 2];
-    let read = streams::read_input(&rt, &mut input);
-    match read {
-        Input::Bytes(n) => write(&rt.stdout(), &rt.stderr(), &input[..n]),
-        Input::Unread => {
-            streams::say(
-                &rt.stderr(),
-                b"draw: expected a pattern on standard input, and no argument\n",
-            );
-        }
-    }
+    let mut out = buffer();
+    streams::run(
+        &rt,
+        &mut input,
+        &mut out,
+        b"draw: expected a pattern on standard input, and no argument\n",
+        b"draw: standard output can't be written\n",
+        graph_whole,
+    );
 }

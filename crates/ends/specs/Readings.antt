@@ -1,5 +1,6 @@
 -- Reading on: what is left of the text leads to the same row, and has the same last end.
-use Rattle.std.specs.Prelude.{◌≡◌, List, ℕ, zero, suc, ◌≤◌, ◌<◌, length, drop}
+use Rattle.std.specs.Prelude.{◌≡◌, List, ℕ, ◌≤◌, ◌<◌, length, drop}
+use Rattle.std.specs.Prelude as std
 use Rattle.std.proofs.Math.Option.{Option, none, some}
 use Rattle.rules.specs.Tools.{or_else}
 use Rattle.rules.specs.Table.{Table, after}
@@ -11,10 +12,10 @@ pub record LeadsOn (w : Table) (t : List ℕ) (q p r e : ℕ) : Type 0 where
   pub row : r < w.count
   pub same : after w q (drop p t) ≡ after w r (drop e t)
 
--- one more than an end, or 0
-abbrev pub end_of : ℕ → Option ℕ
-end_of zero = none
-end_of (suc e) = some e
+-- the last end that was passed, if there is one
+abbrev pub end_of : std.Option ℕ → Option ℕ
+end_of std.None = none
+end_of (std.Some e) = some e
 
 -- the last end of all: one that is still ahead, or the last that was passed
 abbrev pub last_of : Table → List ℕ → Reading → Option ℕ

@@ -3,95 +3,69 @@
 
 ghost use Rattle.std.specs.Prelude.{◌<◌};
 ghost use Rattle.rules.specs.Sizes.{nodes_most};
-ghost use Rattle.entries.specs.Entries.{lists, Room, Puts, NextOf, Links};
+ghost use Rattle.entries.specs.Entries.{Puts, NextOf, Links};
 
 use kinds::{NODES, NODES_MOST, Node};
 
-// A node's kind: empty edges, a head edge, a tail edge, an edge on the bytes of an atom; any other has no edge.
-pub const EMPTY: u8 = 1;
+// What edges a node has.
+#[derive(Clone, Copy, PartialEq, Eq)]
+pub enum Kind {
+    // The final node: none.
+    Last,
+    // Two empty edges, or one where both go to the same node.
+    Empty,
+    // To the next node, each of these: a head edge, a tail edge, an edge on the bytes of an atom.
+    Head,
+    Tail,
+    Bytes,
+}
 
-pub const HEAD: u8 = 2;
-
-pub const TAIL: u8 = 3;
-
-pub const BYTES: u8 = 4;
-
-// What stands at a node in the four lists.
-#[derive(Drop)]
+// What stands at a node: its kind, where its empty edges go, and the place of its atom in the program.
+#[derive(Clone, Copy)]
 pub struct Entry {
-    pub kind: u8,
+    pub kind: Kind,
     pub to1: Node,
     pub to2: Node,
     pub atom: u16,
 }
 
-// On to a node; or past the last.
-#[derive(Drop)]
-pub enum Step {
-    To(Node),
-    TooMany,
-}
+// What stands at each node before any is written.
+pub const BLANK: Entry = Entry {
+    kind: Kind::Last,
+    to1: Node(0),
+    to2: Node(0),
+    atom: 0,
+};
 
-// The node after n.
-pub fn next(n: Node) -> Step
+// The node after n, unless n is the last that there is room for.
+pub fn next(n: Node) -> Option<Node>
     ensures { NextOf n.0 result }
 {
     if NODES_MOST - 1 <= n.0 {
-        return Step::TooMany;
+        return None;
     }
-    Step::To(Node(n.0 + 1))
+    Some(Node(n.0 + 1))
 }
 
-pub fn put(
-    kind: &mut [u8; NODES],
-    to1: &mut [u16; NODES],
-    to2: &mut [u16; NODES],
-    atom: &mut [u16; NODES],
-    at: Node,
-    entry: Entry,
-)
-    requires { (at.0 < nodes_most) × Room (lists kind.old to1.old to2.old atom.old) }
-    ensures { Puts (lists kind.old to1.old to2.old atom.old) (lists kind.new to1.new to2.new atom.new) at.0 entry }
+pub fn put(nodes: &mut [Entry; NODES], at: Node, entry: Entry)
+    requires { at.0 < nodes_most }
+    ensures { Puts nodes.old nodes.new at.0 entry }
 {
-    let i = at.0 as usize;
-    let a = entry.to1;
-    let b = entry.to2;
-    kind[i] = entry.kind;
-    to1[i] = a.0;
-    to2[i] = b.0;
-    atom[i] = entry.atom;
+    nodes[at.0 as usize] = entry;
 }
 
-// A node of kind k whose only edge goes to the next node.
-pub fn link(
-    kind: &mut [u8; NODES],
-    to1: &mut [u16; NODES],
-    to2: &mut [u16; NODES],
-    atom: &mut [u16; NODES],
-    at: Node,
-    k: u8,
-    place: u16,
-) -> Step
-    requires { (at.0 < nodes_most) × Room (lists kind.old to1.old to2.old atom.old) }
-    ensures { Links (lists kind.old to1.old to2.old atom.old) (lists kind.new to1.new to2.new atom.new) at.0 k place result }
+// A node of this kind whose only edge goes to the next node, which is answered.
+pub fn link(nodes: &mut [Entry; NODES], at: Node, kind: Kind, place: u16) -> Option<Node>
+    requires { at.0 < nodes_most }
+    ensures { Links nodes.old nodes.new at.0 kind place result }
 {
-    match next(at) {
-        Step::TooMany => Step::TooMany,
-        Step::To(n) => {
-            put(
-                kind,
-                to1,
-                to2,
-                atom,
-                at,
-                Entry {
-                    kind: k,
-                    to1: n,
-                    to2: n,
-                    atom: place,
-                },
-            );
-            Step::To(n)
-        }
-    }
+    let n = next(at)?;
+    let entry = Entry {
+        kind,
+        to1: n,
+        to2: n,
+        atom: place,
+    };
+    put(nodes, at, entry);
+    Some(n)
 }

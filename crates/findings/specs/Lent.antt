@@ -1,31 +1,31 @@
 -- Two tables in lent room, and what each case of a finding says.
-use Rattle.std.specs.Prelude.{List, ◌++◌, ℕ, ◌*◌, ◌≤◌, length, take}
+use Rattle.std.specs.Prelude.{List, ◌++◌, ℕ, ◌*◌, ◌≤◌, Result, Ok, Err, length, take}
 use Rattle.rules.specs.Table.{Table}
 use Rattle.rules.specs.Answers.{Answer, refused, given}
 use Rattle.kinds.specs.Refusals.{refusal_of}
-use Rattle.answers.specs.declared.Compiled.{Compiled}
-use Rattle.answers.specs.declared.Compiled.TheVariants as compiled
+use Rattle.kinds.specs.declared.Refusal.{Refusal}
+use Rattle.table.specs.declared.Lent.{Lent}
 use Rattle.findings.specs.Said.{same_text, different_text, expected_text, refused_line}
 use Rattle.findings.specs.declared.Finding.{Finding}
 use Rattle.findings.specs.declared.Finding.TheVariants.{Same, Different, First, Second, Both, NotTwo}
 
 -- the table at the front of lent marks and cells, less what is past its rows
-abbrev pub front_table : ℕ → ℕ → List ℕ → List ℕ → Table
-front_table rows head marks cells = record { count = rows; head = head; marks = take rows marks; cells = take (256 * rows) cells }
+abbrev pub front_table : Lent → Table
+front_table t = record { count = t.rows; head = t.head.0; marks = take t.rows t.marks.now; cells = take (256 * t.rows) t.cells.now }
 
 -- as many marks and cells as the rows have
-pub record Holds (rows : ℕ) (marks cells : List ℕ) : Type 0 where
-  pub marks-long : rows ≤ length marks
-  pub cells-long : 256 * rows ≤ length cells
+pub record Holds (t : Lent) : Type 0 where
+  pub marks-long : t.rows ≤ length t.marks.now
+  pub cells-long : 256 * t.rows ≤ length t.cells.now
 
 -- what compiling handed back, with the table that it left
-abbrev pub answer_in : Compiled → List ℕ → List ℕ → Answer Table
-answer_in (compiled.Table rows head) marks cells = given (front_table rows head.0 marks cells)
-answer_in (compiled.Refused r) marks cells = refused (refusal_of r)
+abbrev pub answer_in : Result Lent Refusal → Answer Table
+answer_in (Ok t) = given (front_table t)
+answer_in (Err r) = refused (refusal_of r)
 
-abbrev pub HoldsAnswer : Compiled → List ℕ → List ℕ → Type 0
-HoldsAnswer (compiled.Table rows head) marks cells = Holds rows marks cells
-HoldsAnswer (compiled.Refused r) marks cells = Unit {0}
+abbrev pub HoldsAnswer : Result Lent Refusal → Type 0
+HoldsAnswer (Ok t) = Holds t
+HoldsAnswer (Err r) = Unit {0}
 
 abbrev pub said_of_finding : Finding → List ℕ
 said_of_finding Same = same_text

@@ -5,8 +5,8 @@ ghost use Rattle.std.specs.Prelude.{◌≡◌};
 ghost use Rattle.findings.specs.Said.{said_of_answers};
 ghost use Rattle.findings.specs.Lent.{answer_in, HoldsAnswer, said_of_finding};
 
-use answers::Compiled;
 use kinds::Refusal;
+use table::Lent;
 use tables::same_table;
 
 mod tables;
@@ -23,33 +23,22 @@ pub enum Finding {
     NotTwo,
 }
 
-// What comes of two patterns that were compiled, each in its own cells and marks.
-pub fn judge(
-    first: Compiled,
-    cells: &[u16],
-    marks: &[u8],
-    second: Compiled,
-    cells2: &[u16],
-    marks2: &[u8],
-) -> Finding
-    requires holds_answer { HoldsAnswer first marks.now cells.now }
-    requires holds_answer_2 { HoldsAnswer second marks2.now cells2.now }
-    ensures { said_of_finding result ≡ said_of_answers (answer_in first marks.now cells.now) (answer_in second marks2.now cells2.now) }
+// What comes of two patterns that were compiled, each with its table in cells and marks of its own.
+pub fn judge(first: &Result<Lent<'_>, Refusal>, second: &Result<Lent<'_>, Refusal>) -> Finding
+    requires first { HoldsAnswer first.now }
+    requires second { HoldsAnswer second.now }
+    ensures { said_of_finding result ≡ said_of_answers (answer_in first.now) (answer_in second.now) }
 {
-    match first {
-        Compiled::Refused(r) => match second {
-            Compiled::Refused(s) => Finding::Both(r, s),
-            Compiled::Table(_, _) => Finding::First(r),
-        },
-        Compiled::Table(rows, head) => match second {
-            Compiled::Refused(s) => Finding::Second(s),
-            Compiled::Table(rows2, head2) => {
-                if same_table(rows, head, cells, marks, rows2, head2, cells2, marks2) {
-                    Finding::Same
-                } else {
-                    Finding::Different
-                }
+    match (first, second) {
+        (Ok(table), Ok(other)) => {
+            if same_table(table, other) {
+                Finding::Same
+            } else {
+                Finding::Different
             }
-        },
+        }
+        (Err(r), Ok(_)) => Finding::First(*r),
+        (Ok(_), Err(s)) => Finding::Second(*s),
+        (Err(r), Err(s)) => Finding::Both(*r, *s),
     }
 }

@@ -7,10 +7,16 @@ use Prim.Native.Nat.{ℕ, zero, suc, ◌+◌, ◌-◌, ◌≤◌, ◌<◌}
 use native.Mathlib.Omega.{arith}
 use lib.ListN.{length, take, drop}
 use lib.Seq.{slice, take-nil}
+use lib.Dec.{ltb}
 use denote.Ref.{Bor}
+use Rattle.rules.specs.Sizes.{text_most}
 use Rattle.rules.specs.Tools.{up_from, kept, last, or_else}
-use Rattle.rules.specs.Table.{Table, takes, longest, starts, first}
-use Rattle.rules.specs.Matchers.{Part}
+use Rattle.rules.specs.Table.{Table, takes, longest, starts, first, well_formed}
+use Rattle.rules.specs.Matchers.{Part, checked, first_answer}
+use Rattle.std.specs.Prelude as std
+use Rattle.rules.specs.Answers.{Answer, refusal, refused, given}
+use Rattle.answers.specs.Answers.{first_of}
+use Rattle.passing.specs.Run.{found_of}
 use Rattle.first.specs.Parts.{HandsBack}
 use Rattle.ahead.proofs.PlaceLaws.{last_cons}
 
@@ -28,7 +34,7 @@ last_within f (suc c) a e h = go (f a) (last (kept f (up_from (suc a) c))) refl 
         (omega (arith, r.0), omega (arith, r.1))
     go false x l ih h = let r = ih h in (omega (arith, r.0), omega (arith, r.1))
 
-pub first-within : (w : Table) (t : List ℕ) (s e : ℕ) → first w t ≡ some (s, e) → (s ≤ e) × (e ≤ length t)
+first-within : (w : Table) (t : List ℕ) (s e : ℕ) → first w t ≡ some (s, e) → (s ≤ e) × (e ≤ length t)
 unfolding first longest
 first-within w t s e h = go (starts w t) h
   where
@@ -43,6 +49,21 @@ first-within w t s e h = go (starts w t) h
     go [] h = absurd (none-ne-some (s, e) h)
     go (x ∷ xs) h = on x (longest w t x) refl h
 
+-- what is answered is first
+given_first : (w : Table) (t : List ℕ) (x : Option (ℕ × ℕ)) → first_answer w t ≡ given x → first w t ≡ x
+unfolding first_answer checked
+given_first w t x h = go (well_formed w) (ltb text_most (length t)) h
+  where
+    go : (b l : Bool)
+        → ◌≡◌ {A = Answer (Option (ℕ × ℕ))} (elim b [ false ↦ refused (refusal 13 0) | true ↦ elim l [ true ↦ refused (refusal 12 0) | false ↦ given (first w t) ] ]) (given x)
+        → first w t ≡ x
+    go false l e = cc
+    go true true e = cc
+    go true false e = cc
+
+pub answer-within : (w : Table) (t : List ℕ) (s e : ℕ) → first_answer w t ≡ given (some (s, e)) → (s ≤ e) × (e ≤ length t)
+answer-within w t s e h = first-within w t s e (given_first w t (some (s, e)) h)
+
 -- the part of a list from s to e, cut off at either end first
 pub cut : (s e : ℕ) (l : List ℕ) → take (e - s) (drop s l) ≡ slice s e l
 cut zero e l = let z : e - 0 ≡ e = omega arith in ap (λ (n : ℕ). take n l) z
@@ -53,3 +74,7 @@ cut (suc s) (suc e) (x ∷ l) = let z : suc e - suc s ≡ e - s = omega arith in
 -- a part that is known is the one to hand back
 pub hands-back : {t r : Bor (List ℕ)} {n : ℕ} {o o' : Part} → o ≡ o' → HandsBack t r n o' → HandsBack t r n o
 hands-back {t} {r} {n} e h = subst (HandsBack t r n) (sym e) h
+
+pub first_given : (x : std.Option (ℕ × ℕ)) → first_of (std.Ok x) ≡ given (found_of x)
+first_given (std.Some x) = refl
+first_given std.None = refl

@@ -10,21 +10,22 @@ use Rattle.rules.specs.Matchers.{Part, first_answer}
 use Rattle.kinds.proofs.RefusalsApart.{back, back-of}
 use Rattle.answers.specs.Answers.{first_of}
 use Rattle.first.specs.Parts.{HandsBack}
-use Rattle.answers.specs.declared.First.{First}
-use Rattle.answers.specs.declared.First.TheVariants.{Refused, Match, Nothing}
+use Rattle.std.specs.Prelude.{Result, Ok, Err}
+use Rattle.std.specs.Prelude as std
+use Rattle.kinds.specs.declared.Refusal.{Refusal}
 
 -- the answer that says it
-abbrev first_back : Answer (Option (ℕ × ℕ)) → First
-first_back (refused r) = Refused (back r)
-first_back (given none) = Nothing
-first_back (given (some x)) = Match x.0 x.1
+abbrev first_back : Answer (Option (ℕ × ℕ)) → Result (std.Option (ℕ × ℕ)) Refusal
+first_back (refused r) = Err (back r)
+first_back (given none) = Ok std.None
+first_back (given (some x)) = Ok (std.Some x)
 
-first-back-of : (a : First) → first_back (first_of a) ≡ a
-first-back-of (Refused r) = ap Refused (back-of r)
-first-back-of (Match s e) = refl
-first-back-of Nothing = refl
+first-back-of : (a : Result (std.Option (ℕ × ℕ)) Refusal) → first_back (first_of a) ≡ a
+first-back-of (Err r) = ap Err (back-of r)
+first-back-of (Ok (std.Some x)) = refl
+first-back-of (Ok std.None) = refl
 
-pub first-once : (w : Table) (t : List ℕ) (a b : First) → first_of a ≡ first_answer w t → first_of b ≡ first_answer w t → a ≡ b
+pub first-once : (w : Table) (t : List ℕ) (a b : Result (std.Option (ℕ × ℕ)) Refusal) → first_of a ≡ first_answer w t → first_of b ≡ first_answer w t → a ≡ b
 first-once w t a b p q = sym (first-back-of a) ∙ ap first_back (p ∙ sym q) ∙ first-back-of b
 
 -- one number, one place in the text and one run of bytes

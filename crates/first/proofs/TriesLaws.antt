@@ -9,8 +9,7 @@ use lib.ListN.{length, get_or, drop}
 use Rattle.rules.specs.Tools.{if_some}
 use Rattle.rules.specs.Table.{Table, cell, begins, fits, first, WellFormed}
 use Rattle.rules.proofs.TableLaws.{read_none}
-use Rattle.passing.specs.declared.Found.{Found}
-use Rattle.passing.specs.declared.Found.TheVariants as found
+use Rattle.std.specs.Prelude as std
 use Rattle.ahead.specs.Ahead.{mark, ahead, is_start, last_end, Stuck}
 use Rattle.ahead.proofs.PlaceLaws.{is_some, some-ahead, starts-all}
 use Rattle.passing.specs.Run.{found_of, or_match, first_from}
@@ -37,20 +36,20 @@ module _ (w : Table) (t : List ℕ) where
   first-here {s} h e = first-at w t s h ∙ match-some s (begins w s) s (first_from w t (s + 1)) none e
 
 -- the text from s has been read up to p, in row q, and best is the last match before p
-pub record Ending (w : Table) (t : List ℕ) (s q : ℕ) (best : Found) (p : ℕ) : Type 0 where
+pub record Ending (w : Table) (t : List ℕ) (s q : ℕ) (best : std.Option (ℕ × ℕ)) (p : ℕ) : Type 0 where
   pub row : q < w.count
   pub within : p ≤ length t
   pub same : or_match w t p q s (found_of best) ≡ or_match w t s (begins w s) s none
 
-pub ending-none : {w : Table} {t : List ℕ} {s q : ℕ} → WellFormed w → s ≤ length t → q ≡ begins w s → Ending w t s q found.Nothing s
+pub ending-none : {w : Table} {t : List ℕ} {s q : ℕ} → WellFormed w → s ≤ length t → q ≡ begins w s → Ending w t s q std.None s
 ending-none {w} {t} {s} {q} g h e = record {
   row = (read_none g.formed t s h e).row;
   within = h;
   same = ap (λ (q : ℕ). or_match w t s q s none) e;
 }
 
-module _ {w : Table} {t : List ℕ} {s q : ℕ} {best : Found} {p : ℕ} (g : WellFormed w) (o : Ending w t s q best p) where
-  pub ending-more : {q' : ℕ} {best' : Found} → p < length t → get_or t p 0 < 256 → q' ≡ cell w q (get_or t p 0) → (b : Bool) → fits (mark w q) false ≡ b
+module _ {w : Table} {t : List ℕ} {s q : ℕ} {best : std.Option (ℕ × ℕ)} {p : ℕ} (g : WellFormed w) (o : Ending w t s q best p) where
+  pub ending-more : {q' : ℕ} {best' : std.Option (ℕ × ℕ)} → p < length t → get_or t p 0 < 256 → q' ≡ cell w q (get_or t p 0) → (b : Bool) → fits (mark w q) false ≡ b
       → found_of best' ≡ elim b [ true ↦ some (s, p) | false ↦ found_of best ] → Ending w t s q' best' (p + 1)
   ending-more {q'} {best'} h i e b f x = record {
     row = omega (arith, g.formed.cells-rows (256 * q + get_or t p 0) (omega arith));
@@ -66,7 +65,8 @@ module _ {w : Table} {t : List ℕ} {s q : ℕ} {best : Found} {p : ℕ} (g : We
   ending-dead {d} k b e =
       sym (ap (λ (q : ℕ). or_match w t p q s (found_of best)) e ∙ match-stuck w t (k (omega (arith, o.row))) b p s (found_of best)) ∙ o.same
 
-  pub ending-end : length t ≤ p → (b : Bool) → fits (mark w q) true ≡ b → elim b [ true ↦ some (s, p) | false ↦ found_of best ] ≡ or_match w t s (begins w s) s none
-  ending-end h b f =
-      let e : p ≡ length t = omega (arith, o.within) in
-      ap (λ (n : ℕ). elim b [ true ↦ some (s, n) | false ↦ found_of best ]) e ∙ sym (ap (λ (n : ℕ). or_match w t n q s (found_of best)) e ∙ match-end w t q s (found_of best) b f) ∙ o.same
+pub ending-end : {w : Table} {t : List ℕ} {s q : ℕ} {best : std.Option (ℕ × ℕ)} {p : ℕ} → Ending w t s q best p → length t ≤ p → (b : Bool) → fits (mark w q) true ≡ b
+    → elim b [ true ↦ some (s, length t) | false ↦ found_of best ] ≡ or_match w t s (begins w s) s none
+ending-end {w} {t} {s} {q} {best} {p} o h b f =
+    let e : p ≡ length t = omega (arith, o.within) in
+    sym (ap (λ (n : ℕ). or_match w t n q s (found_of best)) e ∙ match-end w t q s (found_of best) b f) ∙ o.same

@@ -1,11 +1,11 @@
--- What trying each start says: no start lies below `at`, and where it is found, `at` is one.
+-- What trying each start says: the first start, or a place that no start lies below.
 use Rattle.std.specs.Prelude.{◌≡◌, true, List, ℕ, ◌+◌, ◌≤◌, length}
 use Rattle.rules.specs.Table.{Table, first}
 use Rattle.first.specs.declared.tries.Tried.{Tried}
+use Rattle.first.specs.declared.tries.Tried.TheVariants.{Start, NoneBelow}
 use Rattle.ahead.specs.Ahead.{is_start}
 use Rattle.passing.specs.Run.{first_from}
 
-pub record Tries (w : Table) (t : List ℕ) (r : Tried) : Type 0 where
-  pub past : first w t ≡ first_from w t r.at
-  pub within : r.at ≤ length t + 1
-  pub hit : r.found ≡ true → (r.at ≤ length t) × (is_start w t r.at ≡ true)
+abbrev pub Tries : Table → List ℕ → Tried → Type 0
+Tries w t (Start s) = (first w t ≡ first_from w t s) × ((s ≤ length t) × (is_start w t s ≡ true))
+Tries w t (NoneBelow s) = (first w t ≡ first_from w t s) × (s ≤ length t + 1)

@@ -2,73 +2,62 @@
 ghost use Rattle.std.specs.Prelude.{◌≡◌, ◌≤◌, length};
 ghost use Rattle.std.proofs.Math.Option.{none};
 ghost use Rattle.rules.specs.Table.{begins};
-ghost use Rattle.ahead.specs.Ahead.{lent, Ready};
+ghost use Rattle.table.specs.Lent.{lent_table};
 ghost use Rattle.passing.specs.Run.{found_of, or_match};
 ghost use Rattle.first.specs.Tries.{Tries};
 
-use ahead::{Rows, begin, flags_at_end, look};
-use passing::Found;
+use ahead::{Search, begin, flags_at_end};
+use table::{ends_here, step};
 
-// No start lies below `at`, and `found` says that `at` is one.
+// What came of it. No Result: a place below which there is no start is no error.
 #[derive(Drop)]
-pub struct Tried {
-    pub at: usize,
-    pub found: bool,
+pub enum Tried {
+    // The first start.
+    Start(usize),
+    // No start lies below the place.
+    NoneBelow(usize),
 }
 
 // Tries the starts in order until one has a match, or until the walks have read the text four times over.
-pub fn try_each(known: Rows, cells: &[u16], marks: &[u8], text: &[u8]) -> Tried
-    requires { Ready (lent known marks.now cells.now) text.now known.dead.0 }
-    ensures { Tries (lent known marks.now cells.now) text.now result }
+pub fn try_each(search: &Search<'_>) -> Tried
+    ensures { Tries (lent_table search.now.table) search.now.text.now result }
 {
-    let n = text.len();
-    let flags = flags_at_end(known, cells, marks);
-    let mut spent: usize = 0;
-    let mut s: usize = 0;
-    while s <= n {
-        let q = begin(known, s);
-        let walk = look(known, cells, marks, text, &flags, q, s, n);
+    let n = search.text.len();
+    let flags = flags_at_end(&search.table);
+    let mut spent = 0;
+    for s in 0..n + 1 {
+        let walk = search.look(&flags, begin(&search.table, s), s, n);
         if walk.found {
-            return Tried { at: s, found: true };
+            return Tried::Start(s);
         }
-        s += 1;
         spent += walk.steps;
         if 4 * n < spent {
-            return Tried {
-                at: s,
-                found: false,
-            };
+            return Tried::NoneBelow(s + 1);
         }
     }
-    Tried {
-        at: s,
-        found: false,
-    }
+    Tried::NoneBelow(n + 1)
 }
 
 // The match from the start s with the last end, of a text read on to the dead row.
-pub fn last_match(known: Rows, cells: &[u16], marks: &[u8], text: &[u8], s: usize) -> Found
-    requires ready { Ready (lent known marks.now cells.now) text.now known.dead.0 }
-    requires s_in_bounds { s ≤ length text.now }
-    ensures { found_of result ≡ or_match (lent known marks.now cells.now) text.now s (begins (lent known marks.now cells.now) s) s none }
+pub fn last_match(search: &Search<'_>, s: usize) -> Option<(u32, u32)>
+    requires { s ≤ length search.now.text.now }
+    ensures { found_of result ≡ or_match (lent_table search.now.table) search.now.text.now s (begins (lent_table search.now.table) s) s none }
 {
+    let n = search.text.len();
     let from = s as u32;
-    let dead = known.dead;
-    let mut row = begin(known, s);
-    let mut best = Found::Nothing;
-    let mut p = s;
-    while p < text.len() {
-        if row.0 == dead.0 {
+    let mut row = begin(&search.table, s);
+    let mut best = None;
+    for p in s..n {
+        if row == search.dead {
             return best;
         }
-        if table::ends_here(marks[row.0 as usize], false) {
-            best = Found::Match(from, p as u32);
+        if ends_here(search.table.marks[row.0 as usize], false) {
+            best = Some((from, p as u32));
         }
-        row = table::step(cells, row, text[p]);
-        p += 1;
+        row = step(search.table.cells, row, search.text[p]);
     }
-    if table::ends_here(marks[row.0 as usize], true) {
-        best = Found::Match(from, p as u32);
+    if ends_here(search.table.marks[row.0 as usize], true) {
+        return Some((from, n as u32));
     }
     best
 }

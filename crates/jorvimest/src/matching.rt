@@ -5,14 +5,14 @@ ghost use Rattle.rules.specs.Matchers.{whole_answer, longest_answer, first_answe
 ghost use Rattle.table.specs.Lent.{table_of};
 ghost use Rattle.codes.specs.Codes.{whole_code, longest_code, longest_end, first_code, first_start, first_end, starts_code, starts_count};
 
+use crate::lent;
 use codes::{put_first, put_longest, put_starts, whole_code};
-use kinds::Row;
 
 #[unsafe(no_mangle)]
 pub extern "C" fn jorvimest_well_formed(rows: u16, head: u16, cells: &[u16], marks: &[u8]) -> bool
     ensures { result ≡ well_formed (table_of rows head marks.now cells.now) }
 {
-    table::well_formed(rows, Row(head), cells, marks)
+    lent(rows, head, cells, marks).is_well_formed()
 }
 
 #[unsafe(no_mangle)]
@@ -25,7 +25,7 @@ pub extern "C" fn jorvimest_whole(
 ) -> u32
     ensures { result ≡ whole_code (whole_answer (table_of rows head marks.now cells.now) text.now) }
 {
-    whole_code(ends::whole(rows, Row(head), cells, marks, text))
+    whole_code(ends::whole(&lent(rows, head, cells, marks), text))
 }
 
 // The end of a match is put into the lent number.
@@ -42,7 +42,7 @@ pub extern "C" fn jorvimest_longest(
     ensures code { result ≡ longest_code (longest_answer (table_of rows head marks.now cells.now) text.now start) }
     ensures end { end.new ≡ longest_end end.old (longest_answer (table_of rows head marks.now cells.now) text.now start) }
 {
-    let answer = ends::longest(rows, Row(head), cells, marks, text, start);
+    let answer = ends::longest(&lent(rows, head, cells, marks), text, start);
     put_longest(answer, end)
 }
 
@@ -61,7 +61,7 @@ pub extern "C" fn jorvimest_first(
     ensures start { start.new ≡ first_start start.old (first_answer (table_of rows head marks.now cells.now) text.now) }
     ensures end { end.new ≡ first_end end.old (first_answer (table_of rows head marks.now cells.now) text.now) }
 {
-    let answer = first::first(rows, Row(head), cells, marks, text);
+    let answer = first::first(&lent(rows, head, cells, marks), text);
     put_first(answer, start, end)
 }
 
@@ -80,6 +80,6 @@ pub extern "C" fn jorvimest_starts(
     ensures count { count.new ≡ starts_count count.old (starts_answer (table_of rows head marks.now cells.now) text.now list.old).answer }
     ensures list { list.new ≡ (starts_answer (table_of rows head marks.now cells.now) text.now list.old).list }
 {
-    let answer = starts::starts(rows, Row(head), cells, marks, text, list);
+    let answer = starts::starts(&lent(rows, head, cells, marks), text, list);
     put_starts(answer, count)
 }

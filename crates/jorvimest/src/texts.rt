@@ -7,8 +7,8 @@ ghost use Rattle.writing.specs.Texts.{shown_in};
 ghost use Rattle.listing.specs.Lines.{listing_of};
 ghost use Rattle.codes.specs.Codes.{text_code, text_length};
 
+use crate::lent;
 use codes::put_text;
-use kinds::Row;
 
 // The listing is put into the lent buffer, as far as it reaches, and the listing's length into the lent number.
 #[unsafe(no_mangle)]
@@ -24,7 +24,7 @@ pub extern "C" fn jorvimest_listing(
     ensures length { length.new ≡ text_length length.old (shown_in out.old (listing_of (table_of rows head marks.now cells.now))).answer }
     ensures out { out.new ≡ (shown_in out.old (listing_of (table_of rows head marks.now cells.now))).buffer }
 {
-    let answer = listing::write_table(rows, Row(head), cells, marks, out);
+    let answer = listing::write_table(&lent(rows, head, cells, marks), out);
     put_text(answer, length)
 }
 
@@ -41,5 +41,5 @@ pub extern "C" fn jorvimest_refusal(
     ensures out { out.new ≡ (shown_in out.old (given (rule.listing (refused (refusal number place))))).buffer }
 {
     let answer = lines::write_refused(number, place, out);
-    put_text(answer, length)
+    put_text(Ok(answer), length)
 }

@@ -1,13 +1,13 @@
 -- Keys of classes, rows that go to classes of one key, and what is found of a row's keys on its way through the columns.
 use mathlib.Core.Path.{◌≡◌, refl, sym, ap, ◌∙◌}
-use mathlib.Core.Logic.{◌≢◌}
+use mathlib.Core.Logic.{◌≢◌, ∥∥₁_elim}
 use mathlib.Core.Bool.{Bool, true, false, not, ◌||◌}
 use mathlib.Core.List.{List, [], ◌∷◌}
-use Prim.Native.Nat.{ℕ, zero, suc, ◌+◌, ◌≤◌, ◌<◌, ◌*◌}
-use native.Mathlib.Decide.{ℕ_discrete, dec_lt}
+use Prim.Native.Nat.{ℕ, zero, suc, ◌+◌, ◌≤◌, ◌<◌}
+use native.Mathlib.Decide.{ℕ_discrete}
+use Rattle.std.proofs.Math.Nat.{ℕ_set}
 use native.Mathlib.Numerals.{add-one}
 use native.Mathlib.Omega.{arith}
-use borrow.Author.Tests.{eq-eqb, ne_eqb}
 use borrow.Author.Count.{below_more}
 use borrow.Author.Tests.{lt-ltb, le-ltb, eqb-true, eqb-false, not-true, not-false}
 use lib.Dec.{eqb}
@@ -16,7 +16,7 @@ use lib.Seq.{drop-cons}
 use Rattle.rules.proofs.Tests.{is_false}
 use Rattle.columns.specs.Columns.{Columns}
 use Rattle.mixing.specs.Mixing.{mixed, bucket_for}
-use Rattle.keys.specs.Keys.{key, key_on, Idle, KeysAlike, Alike, all_mixed, bucket_of, Busy, mixed_in}
+use Rattle.keys.specs.Keys.{key, key_on, Idle, KeysAlike, Alike, Tells, all_mixed, bucket_of, mixed_in}
 
 -- ---- the key of a class
 
@@ -29,20 +29,28 @@ module _ {from x : ℕ} where
   unfolding key
   key-high l = ap (λ (b : Bool). elim b [ true ↦ 0 | false ↦ x ]) (le-ltb x from l)
 
-  pub key-zero : 0 < from → key from x ≡ 0 → x < from
-  key-zero p e = go (dec_lt x from)
-    where
-      go : Dec (x < from) → x < from
-      go (yes l) = l
-      go (no n) = omega (arith, key-high (omega arith), e)
-
 -- ---- rows that go to classes of one key
 
--- rows whose keys agree on the bytes listed agree on every byte
-pub on-columns : {cells bytes : List ℕ} {n i j : ℕ} (class : List ℕ) (from : ℕ) → Columns cells bytes n → i < n → j < n
-    → ((k : ℕ) → k < length bytes → key_on cells class from i (get_or bytes k 0) ≡ key_on cells class from j (get_or bytes k 0)) → KeysAlike cells class from i j
-on-columns {cells} {bytes} {n} {i} {j} class from C li lj h b l =
-    ap (λ (x : ℕ). key from (get_or class x 0)) ((C.column b l).2 i li) ∙ h (C.column b l).0 (C.column b l).1 ∙ sym (ap (λ (x : ℕ). key from (get_or class x 0)) ((C.column b l).2 j lj))
+-- each is a byte
+abbrev pub Bytes : List ℕ → Type 0
+Bytes bytes = (k : ℕ) → k < length bytes → get_or bytes k 0 < 256
+
+-- rows i and j go to classes of one key on each of the first m bytes
+abbrev pub SameTo : List ℕ → List ℕ → ℕ → List ℕ → ℕ → ℕ → ℕ → Type 0
+SameTo cells class from bytes i j m = (k : ℕ) → k < m → key_on cells class from i (get_or bytes k 0) ≡ key_on cells class from j (get_or bytes k 0)
+
+module _ {cells bytes : List ℕ} {n : ℕ} (class : List ℕ) (from : ℕ) (listed : ∥ Columns cells bytes n ∥₁) where
+  -- rows whose keys agree on the bytes listed agree on every byte
+  pub on-columns : {i j : ℕ} → i < n → j < n → SameTo cells class from bytes i j (length bytes) → KeysAlike cells class from i j
+  on-columns {i} {j} li lj h b l = ∥∥₁_elim listed (ℕ_set (key_on cells class from i b) (key_on cells class from j b)) (λ C. ap (λ (x : ℕ). key from (get_or class x 0)) ((C.column b l).2 i li)
+      ∙ h (C.column b l).0 (C.column b l).1 ∙ sym (ap (λ (x : ℕ). key from (get_or class x 0)) ((C.column b l).2 j lj)))
+
+  -- a row that goes to no class that waits on the bytes listed goes to none
+  pub idle-columns : {r : ℕ} → r < n → ((k : ℕ) → k < length bytes → key_on cells class from r (get_or bytes k 0) ≡ 0) → Idle cells class from r
+  idle-columns {r} lr h b l = ∥∥₁_elim listed (ℕ_set (key_on cells class from r b) 0) (λ C. ap (λ (x : ℕ). key from (get_or class x 0)) ((C.column b l).2 r lr) ∙ h (C.column b l).0 (C.column b l).1)
+
+  pub alike_all : {i j m : ℕ} → length bytes ≤ m → i < n → j < n → SameTo cells class from bytes i j m → Tells true cells class from i j
+  alike_all few li lj h = record { yes = λ e. on-columns li lj (λ k l. h k (omega arith)); no = λ e. absurd (is_false true e tt) }
 
 module _ {cells class : List ℕ} {from : ℕ} where
   pub alike_refl : (i : ℕ) → Alike cells class from i i
@@ -73,17 +81,9 @@ some_byte f g (suc n) h = go (ℕ_discrete (f n) (g n)) (some_byte f g n)
 
 -- ---- the bucket of a row
 
-module _ (h b x : ℕ) where
-  pub mixed-past : x ≡ 0 → h ≡ mixed_in h b x
-  unfolding mixed_in
-  mixed-past e = sym (ap (λ (t : Bool). elim t [ true ↦ h | false ↦ mixed h + (b * 65536 + x) ]) (eq-eqb x 0 e))
-
-  pub mixed-key : x ≢ 0 → mixed h + (b * 65536 + x) ≡ mixed_in h b x
-  unfolding mixed_in
-  mixed-key ne = sym (ap (λ (t : Bool). elim t [ true ↦ h | false ↦ mixed h + (b * 65536 + x) ]) (ne_eqb x 0 ne))
-
 module _ (cells class : List ℕ) (from : ℕ) (bytes : List ℕ) (r k h : ℕ) where
-  pub mixed-more : {g : ℕ} → k < length bytes → g ≡ mixed_in h (get_or bytes k 0) (key_on cells class from r (get_or bytes k 0)) → all_mixed cells class from r h (drop k bytes) ≡ all_mixed cells class from r 0 bytes
+  pub mixed-more : {g : ℕ} → k < length bytes → g ≡ mixed_in h (get_or bytes k 0) (key_on cells class from r (get_or bytes k 0))
+      → all_mixed cells class from r h (drop k bytes) ≡ all_mixed cells class from r 0 bytes
       → all_mixed cells class from r g (drop (k + 1) bytes) ≡ all_mixed cells class from r 0 bytes
   unfolding all_mixed
   mixed-more l e q = rw (e, add-one) (ap (all_mixed cells class from r h) (sym (drop-cons bytes k 0 l)) ∙ q)
@@ -92,10 +92,6 @@ module _ (cells class : List ℕ) (from : ℕ) (bytes : List ℕ) (r k h : ℕ) 
       → bucket_for g ≡ bucket_of cells class from bytes r
   unfolding all_mixed bucket_of
   mixed-end l e q = rw e (ap (λ (z : ℕ). bucket_for (mixed z + get_or class r 0)) (ap (all_mixed cells class from r h) (sym (drop_of_length-le bytes l)) ∙ q))
-
--- each is a byte
-abbrev pub Bytes : List ℕ → Type 0
-Bytes bytes = (k : ℕ) → k < length bytes → get_or bytes k 0 < 256
 
 module _ {cells class : List ℕ} {from i j : ℕ} (s : Alike cells class from i j) where
   same-mixed : (bytes : List ℕ) (h : ℕ) → Bytes bytes → all_mixed cells class from i h bytes ≡ all_mixed cells class from j h bytes
@@ -118,9 +114,6 @@ pub record Seen (any : Bool) (cells class : List ℕ) (from : ℕ) (bytes : List
   pub yes : any ≡ true → Idle cells class from r → ⊥
   pub no : any ≡ false → (j : ℕ) → j < k → key_on cells class from r (get_or bytes j 0) ≡ 0
 
-pub seen_none : (cells class : List ℕ) (from : ℕ) (bytes : List ℕ) (r : ℕ) → Seen false cells class from bytes r 0
-seen_none cells class from bytes r = record { yes = λ e. absurd (is_false true (sym e) tt); no = λ e j l. absurd (omega arith) }
-
 module _ {cells class : List ℕ} {from : ℕ} {bytes : List ℕ} {r k : ℕ} where
   pub seen_more : (any : Bool) (x : ℕ) → Seen any cells class from bytes r k → get_or bytes k 0 < 256 → x ≡ key_on cells class from r (get_or bytes k 0)
       → Seen (any || not (eqb x 0)) cells class from bytes r (k + 1)
@@ -130,8 +123,5 @@ module _ {cells class : List ℕ} {from : ℕ} {bytes : List ℕ} {r k : ℕ} wh
     no = λ e. below_more (λ j. key_on cells class from r (get_or bytes j 0) ≡ 0) k (s.no refl) (sym q ∙ eqb-true x 0 (not-false (eqb x 0) e));
   }
 
-  pub seen_all : {any : Bool} {n : ℕ} → Columns cells bytes n → r < n → length bytes ≤ k → Seen any cells class from bytes r k → Busy any cells class from r
-  seen_all C lr m s = record {
-    yes = s.yes;
-    no = λ e b l. ap (λ (x : ℕ). key from (get_or class x 0)) ((C.column b l).2 r lr) ∙ s.no e (C.column b l).0 (omega (arith, (C.column b l).1));
-  }
+  pub seen_idle : {any : Bool} {n : ℕ} → ∥ Columns cells bytes n ∥₁ → r < n → length bytes ≤ k → any ≡ false → Seen any cells class from bytes r k → Idle cells class from r
+  seen_idle C lr m e s = idle-columns class from C lr (λ j l. s.no e j (omega arith))

@@ -1,8 +1,6 @@
 -- Classes that wait, and what rows that go to them are told apart by. The classes from the number `from` on wait.
-use Rattle.std.specs.Prelude.{◌≡◌, Bool, true, false, List, [], ◌∷◌, ℕ, ◌+◌, ◌*◌, ◌<◌, eqb, ltb, length, get_or}
-use Rattle.columns.specs.Columns.{Columns}
-use Rattle.mixing.specs.Mixing.{mixed, bucket_for}
-use Rattle.grid.specs.Rows.{Rows}
+use Rattle.std.specs.Prelude.{◌≡◌, Bool, true, false, List, [], ◌∷◌, Option, Some, None, ℕ, ◌+◌, ◌*◌, ◌<◌, eqb, ltb, get_or}
+use Rattle.mixing.specs.Mixing.{buckets, mixed, bucket_for}
 
 -- the key of a class: its number if it waits, else 0
 unfoldable pub key : ℕ → ℕ → ℕ
@@ -26,11 +24,6 @@ pub record Alike (cells class : List ℕ) (from i j : ℕ) : Type 0 where
 
 -- ---- what is asked of rows
 
--- rows in their classes, and their columns
-pub record Given (cells class bytes : List ℕ) : Type 0 where
-  pub rows : Rows cells (length class)
-  pub columns : Columns cells bytes (length class)
-
 pub record Tells (r : Bool) (cells class : List ℕ) (from i j : ℕ) : Type 0 where
   pub yes : r ≡ true → KeysAlike cells class from i j
   pub no : r ≡ false → KeysAlike cells class from i j → ⊥
@@ -48,7 +41,18 @@ all_mixed cells class from r h (b ∷ bs) = all_mixed cells class from r (mixed_
 unfoldable pub bucket_of : List ℕ → List ℕ → ℕ → List ℕ → ℕ → ℕ
 bucket_of cells class from bytes r = bucket_for (mixed (all_mixed cells class from r 0 bytes) + get_or class r 0)
 
+-- a bucket is told exactly if row r goes to a class that waits, and is that of the rows that go as row r
+abbrev pub Bucket : Option ℕ → List ℕ → List ℕ → ℕ → List ℕ → ℕ → Type 0
+Bucket None cells class from bytes r = Idle cells class from r
+Bucket (Some b) cells class from bytes r = (Idle cells class from r → ⊥) × (b < buckets) × ((q : ℕ) → Alike cells class from q r → bucket_of cells class from bytes q ≡ b)
+
 -- whether row r goes to a class that waits
 pub record Busy (any : Bool) (cells class : List ℕ) (from r : ℕ) : Type 0 where
   pub yes : any ≡ true → Idle cells class from r → ⊥
   pub no : any ≡ false → Idle cells class from r
+
+-- the bucket of row r, which is that of the rows that go as row r
+pub record BucketOf (b : ℕ) (cells class : List ℕ) (from : ℕ) (bytes : List ℕ) (r : ℕ) : Type 0 where
+  pub low : b < buckets
+  pub is : b ≡ bucket_of cells class from bytes r
+  pub alike : (q : ℕ) → Alike cells class from q r → bucket_of cells class from bytes q ≡ b

@@ -1,17 +1,16 @@
 // Numbers that can't stand for each other, the sizes, and what is turned away.
 #![tactic(auto)]
 
-ghost use Rattle.std.specs.Prelude.{◌≡◌, ◌≤◌};
+ghost use Rattle.std.specs.Prelude.{◌≡◌};
 ghost use Rattle.kinds.specs.Sizes.{AsAgreed};
 ghost use Rattle.kinds.specs.Refusals.{refusal_of};
-ghost use Rattle.rules.specs.Answers.{refusal};
 
 // A node of a pattern: a member of a set row.
-#[derive(Clone, Copy)]
+#[derive(Clone, Copy, PartialEq, Eq)]
 pub struct Node(pub u16);
 
 // A row of a table: its 256 cells are those from 256 times its number on.
-#[derive(Clone, Copy)]
+#[derive(Clone, Copy, PartialEq, Eq)]
 pub struct Row(pub u16);
 
 // Bytes of a pattern.
@@ -62,7 +61,7 @@ fn agreed_sizes() -> Sizes
 }
 
 // What is turned away; `refusal_of` has the number, the place and the values of each.
-#[derive(Clone, Copy)]
+#[derive(Clone, Copy, PartialEq, Eq)]
 pub enum Refusal {
     TooLong,
     // Those of reading, 2 to 9, with their place.
@@ -83,63 +82,48 @@ pub enum Refusal {
     FewPlaces(u32),
 }
 
-pub fn number(r: Refusal) -> u32
-    ensures { result ≡ (refusal_of r).number }
-{
-    match r {
-        Refusal::TooLong => 1,
-        Refusal::NoAtom(_) => 2,
-        Refusal::BadCount(_) => 3,
-        Refusal::BadClass(_) => 4,
-        Refusal::BadEscape(_) => 5,
-        Refusal::Stray(_) => 6,
-        Refusal::NoGroup(_) => 7,
-        Refusal::OpenGroup(_) => 8,
-        Refusal::DeepGroup(_) => 9,
-        Refusal::ManyNodes => 10,
-        Refusal::ManyRows => 11,
-        Refusal::LongText => 12,
-        Refusal::NotFormed => 13,
-        Refusal::PastEnd => 14,
-        Refusal::FewPlaces(_) => 15,
+impl Refusal {
+    pub fn number(self) -> u32
+        ensures { result ≡ (refusal_of self).number }
+    {
+        match self {
+            Refusal::TooLong => 1,
+            Refusal::NoAtom(_) => 2,
+            Refusal::BadCount(_) => 3,
+            Refusal::BadClass(_) => 4,
+            Refusal::BadEscape(_) => 5,
+            Refusal::Stray(_) => 6,
+            Refusal::NoGroup(_) => 7,
+            Refusal::OpenGroup(_) => 8,
+            Refusal::DeepGroup(_) => 9,
+            Refusal::ManyNodes => 10,
+            Refusal::ManyRows => 11,
+            Refusal::LongText => 12,
+            Refusal::NotFormed => 13,
+            Refusal::PastEnd => 14,
+            Refusal::FewPlaces(_) => 15,
+        }
     }
-}
 
-pub fn place(r: Refusal) -> u32
-    ensures { result ≡ (refusal_of r).place }
-{
-    match r {
-        Refusal::TooLong => PATTERN_MOST as u32,
-        Refusal::NoAtom(i) => i,
-        Refusal::BadCount(i) => i,
-        Refusal::BadClass(i) => i,
-        Refusal::BadEscape(i) => i,
-        Refusal::Stray(i) => i,
-        Refusal::NoGroup(i) => i,
-        Refusal::OpenGroup(i) => i,
-        Refusal::DeepGroup(i) => i,
-        Refusal::ManyNodes => 0,
-        Refusal::ManyRows => 0,
-        Refusal::LongText => 0,
-        Refusal::NotFormed => 0,
-        Refusal::PastEnd => 0,
-        Refusal::FewPlaces(_) => 0,
-    }
-}
-
-// The refusal of reading with this number and this place.
-pub fn reading(number: u8, place: u32) -> Refusal
-    requires { (2 ≤ number) × (number ≤ 9) }
-    ensures { refusal_of result ≡ refusal number place }
-{
-    match number {
-        2 => Refusal::NoAtom(place),
-        3 => Refusal::BadCount(place),
-        4 => Refusal::BadClass(place),
-        5 => Refusal::BadEscape(place),
-        6 => Refusal::Stray(place),
-        7 => Refusal::NoGroup(place),
-        8 => Refusal::OpenGroup(place),
-        _ => Refusal::DeepGroup(place),
+    pub fn place(self) -> u32
+        ensures { result ≡ (refusal_of self).place }
+    {
+        match self {
+            Refusal::TooLong => PATTERN_MOST as u32,
+            Refusal::NoAtom(i)
+            | Refusal::BadCount(i)
+            | Refusal::BadClass(i)
+            | Refusal::BadEscape(i)
+            | Refusal::Stray(i)
+            | Refusal::NoGroup(i)
+            | Refusal::OpenGroup(i)
+            | Refusal::DeepGroup(i) => i,
+            Refusal::ManyNodes
+            | Refusal::ManyRows
+            | Refusal::LongText
+            | Refusal::NotFormed
+            | Refusal::PastEnd
+            | Refusal::FewPlaces(_) => 0,
+        }
     }
 }

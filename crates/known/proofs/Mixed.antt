@@ -52,7 +52,8 @@ module _ (words : List ℕ) where
       at_first = omega arith
 
   module _ (i h : ℕ) where
-    pub mixed-more : {g : ℕ} → i < length words → g ≡ mixed_in h i (get_or words i 0) → all_mixed h i (drop i words) ≡ all_mixed 0 0 words → all_mixed g (i + 1) (drop (i + 1) words) ≡ all_mixed 0 0 words
+    pub mixed-more : {g : ℕ} → i < length words → g ≡ mixed_in h i (get_or words i 0) → all_mixed h i (drop i words) ≡ all_mixed 0 0 words
+        → all_mixed g (i + 1) (drop (i + 1) words) ≡ all_mixed 0 0 words
     unfolding all_mixed
     mixed-more l e k = rw (e, add-one) (ap (all_mixed h i) (sym (drop-cons words i 0 l)) ∙ k)
 
@@ -70,16 +71,12 @@ module _ (words : List ℕ) {h : ℕ} (e : h ≡ all_mixed 0 0 words) where
   unfolding bucket_of
   bucket-some ne q = q ∙ sym (ap (λ (b : Bool). elim b [ true ↦ buckets | false ↦ bucket_for h ]) (ne_eqb h 0 ne)) ∙ ap bucket_in e
 
-bucket-in : (h : ℕ) → Dec (h ≡ 0) → (bucket_in h ≤ buckets) × (bucket_in h ≡ buckets → h ≡ 0)
-bucket-in h (yes e) = (rw e (omega arith), λ q. e)
-bucket-in h (no ne) = (omega (arith, is), λ q. absurd (omega (arith, is)))
+bucket-in : (h : ℕ) → Dec (h ≡ 0) → bucket_in h ≡ buckets → h ≡ 0
+bucket-in h (yes e) q = e
+bucket-in h (no ne) q = absurd (omega (arith, is))
   where
     is : bucket_in h ≡ bucket_for h
     is = ap (λ (b : Bool). elim b [ true ↦ buckets | false ↦ bucket_for h ]) (ne_eqb h 0 ne)
-
-pub bucket-le : (words : List ℕ) → bucket_of words ≤ buckets
-unfolding bucket_of
-bucket-le words = (bucket-in (all_mixed 0 0 words) (ℕ_discrete (all_mixed 0 0 words) 0)).0
 
 -- ---- the empty set
 
@@ -115,7 +112,7 @@ zero-unused (x ∷ ws) e j = go j (ℕ_discrete x 0)
 
 unused : (ws : List ℕ) → bucket_of ws ≡ buckets → (j : ℕ) → get_or ws j 0 ≡ 0
 unfolding bucket_of
-unused ws e = zero-unused ws ((bucket-in (all_mixed 0 0 ws) (ℕ_discrete (all_mixed 0 0 ws) 0)).1 e)
+unused ws e = zero-unused ws (bucket-in (all_mixed 0 0 ws) (ℕ_discrete (all_mixed 0 0 ws) 0) e)
 
 -- sets of its bucket are the same
 pub empty-same : (a b : List ℕ) → length a ≡ length b → bucket_of a ≡ buckets → bucket_of b ≡ buckets → a ≡ b

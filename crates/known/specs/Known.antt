@@ -1,13 +1,11 @@
 -- Known sets: rows from row 2 on by the words of their sets, in buckets.
-use Rattle.std.specs.Prelude.{◌≡◌, ◌⊎◌, true, false, List, [], ◌∷◌, ℕ, suc, ◌+◌, ◌*◌, ◌≤◌, ◌<◌, eqb, length, get_or}
+use Rattle.std.specs.Prelude.{◌≡◌, ◌⊎◌, true, false, List, [], ◌∷◌, ℕ, suc, ◌+◌, ◌*◌, ◌≤◌, ◌<◌, eqb, length, get_or, Option, Some, None}
 use Rattle.std.specs.Int.Bits.{bit_xor}
 use Rattle.rules.specs.Sizes.{rows_most, words_a_row}
 use Rattle.mixing.specs.Mixing.{buckets, mixed, bucket_for}
 use Rattle.nodesets.specs.NodeSets.{mask_of, row_words}
-use Rattle.known.specs.declared.Found.{Found}
-use Rattle.known.specs.declared.Found.TheVariants as found
-use Rattle.known.specs.declared.Got.{Got}
-use Rattle.known.specs.declared.Got.TheVariants as got
+use Rattle.kinds.specs.declared.Row.{Row}
+use Rattle.known.specs.declared.Known.{Known}
 
 -- ---- the bucket of a set
 
@@ -46,9 +44,9 @@ Linked w sets nexts c = (i : ℕ) → 2 ≤ i → i < c → Greatest (bucket_at 
 abbrev pub Unknown : ℕ → List ℕ → ℕ → List ℕ → Type 0
 Unknown w sets c set = (i : ℕ) → 2 ≤ i → i < c → mask_of (row_words w sets i) ≡ mask_of set → ⊥
 
-abbrev pub FoundAs : ℕ → List ℕ → ℕ → List ℕ → Found → Type 0
-FoundAs w sets c set (found.At r) = (2 ≤ r.0) × (r.0 < c) × (row_words w sets r.0 ≡ set)
-FoundAs w sets c set found.Nothing = Unknown w sets c set
+abbrev pub FoundAs : ℕ → List ℕ → ℕ → List ℕ → Option Row → Type 0
+FoundAs w sets c set (Some r) = (2 ≤ r.0) × (r.0 < c) × (row_words w sets r.0 ≡ set)
+FoundAs w sets c set None = Unknown w sets c set
 
 -- the c rows that there are, of which there may be `room`
 pub record Book (w room : ℕ) (sets heads nexts : List ℕ) (c : ℕ) : Type 0 where
@@ -60,6 +58,9 @@ pub record Book (w room : ℕ) (sets heads nexts : List ℕ) (c : ℕ) : Type 0 
   pub nexts-long : length nexts ≡ rows_most
   pub firsts : (k : ℕ) → k ≤ buckets → Greatest (bucket_at w sets) k c (get_or heads k 0)
   pub links : Linked w sets nexts c
+
+abbrev pub Knows : ℕ → List ℕ → Known → Type 0
+Knows w sets k = Book w k.room sets k.heads k.nexts k.rows
 
 -- row r, of the c rows, has the set; or r is 0
 abbrev pub RowOf : ℕ → List ℕ → ℕ → List ℕ → ℕ → Type 0
@@ -80,6 +81,7 @@ pub record TookIn (w room : ℕ) (sets : List ℕ) (c : ℕ) (set : List ℕ) (n
   pub kept : (i : ℕ) → i < c → row_words w new i ≡ row_words w sets i
   pub grown : (d ≡ c) ⊎ ((d ≡ suc c) × (r ≡ c) × Unknown w sets c set)
 
-abbrev pub Took : ℕ → ℕ → List ℕ → ℕ → List ℕ → List ℕ → List ℕ → List ℕ → Got → Type 0
-Took w room sets c set new heads nexts (got.In r d) = TookIn w room sets c set new heads nexts r.0 d
-Took w room sets c set new heads nexts got.Over = (c ≡ room) × Unknown w sets c set
+-- as many rows may be as before; or there is no room for a row with the set, and all stays as it was
+abbrev pub Took : ℕ → List ℕ → Known → List ℕ → List ℕ → Known → Option Row → Type 0
+Took w sets old set new k (Some r) = (k.room ≡ old.room) × TookIn w old.room sets old.rows set new k.heads k.nexts r.0 k.rows
+Took w sets old set new k None = (k ≡ old) × (new ≡ sets) × (old.rows ≡ old.room) × Unknown w sets old.rows set

@@ -2,27 +2,34 @@
 #![tactic(auto)]
 
 ghost use Rattle.std.specs.Prelude.{◌≡◌, ◌+◌, ◌*◌, ◌≤◌, ◌<◌, length};
-ghost use Rattle.rules.specs.Sizes.{rows_most, words_a_row};
+ghost use Rattle.rules.specs.Sizes.{words_a_row};
 ghost use Rattle.rules.specs.Tools as tools;
 ghost use Rattle.mixing.specs.Mixing.{buckets};
 ghost use Rattle.nodesets.specs.NodeSets.{row_words, Within};
-ghost use Rattle.known.specs.Known.{mixed_in, all_mixed, bucket_of, bucket_at, Greatest, Linked, FoundAs, Book, Stored, Took};
+ghost use Rattle.known.specs.Known.{mixed_in, all_mixed, bucket_of, FoundAs, Knows, Stored, Took};
 
-use kinds::{Row, WORDS_A_ROW};
+use kinds::{ROWS, Row, WORDS_A_ROW};
 use mixing::{BUCKETS, bucket_of, mix};
-use nodesets::{copy, same};
+use nodesets::same;
 
-#[derive(Drop)]
-pub enum Found {
-    At(Row),
-    Nothing,
+// The buckets, and that of the empty set.
+pub const HEADS: usize = BUCKETS + 1;
+
+// The words of a set that are in use: those from `from` on, before `to`.
+#[derive(Clone, Copy)]
+pub struct Used {
+    pub from: usize,
+    pub to: usize,
 }
 
-// A row, and how many rows there are then; or no room for it.
+// How many rows there are, and how many there may be; the greatest row of each bucket, and for each row the next below it in its
+// bucket. It is 0 where there is none: row 0 is never sought, and an Option would take twice the room to clear.
 #[derive(Drop)]
-pub enum Got {
-    In(Row, usize),
-    Over,
+pub struct Known {
+    pub rows: usize,
+    pub room: usize,
+    pub heads: [u16; HEADS],
+    pub nexts: [u16; ROWS],
 }
 
 // Word i of a set mixed in.
@@ -36,26 +43,24 @@ fn mix_in(h: u64, i: usize, word: u64) -> u64
     mix(h ^ word) + i as u64 * 2246822519
 }
 
-// The words in use mixed, which are those from `from` to `to`.
-fn mix_all(words: &[u64], from: usize, to: usize) -> u64
-    requires { (length words.now ≤ words_a_row) × Within from to words.now }
+// The words in use mixed.
+fn mix_all(words: &[u64], used: Used) -> u64
+    requires { (length words.now ≤ words_a_row) × Within used.from used.to words.now }
     ensures { result ≡ all_mixed 0 0 words.now }
 {
     let mut h: u64 = 0;
-    let mut i = from;
-    while i < to {
+    for i in used.from..used.to {
         h = mix_in(h, i, words[i]);
-        i += 1;
     }
     h
 }
 
-// The bucket of a set, whose words in use are those from `from` to `to`.
-fn bucket(words: &[u64], from: usize, to: usize) -> usize
-    requires { (length words.now ≤ words_a_row) × Within from to words.now }
+// The bucket of a set.
+fn bucket(words: &[u64], used: Used) -> usize
+    requires { (length words.now ≤ words_a_row) × Within used.from used.to words.now }
     ensures { (result ≡ bucket_of words.now) × (result ≤ buckets) }
 {
-    let h = mix_all(words, from, to);
+    let h = mix_all(words, used);
     if h == 0 {
         return BUCKETS;
     }
@@ -68,30 +73,11 @@ fn has_set(sets: &[u64], r: usize, words: &[u64], i: usize) -> bool
     ensures { result ≡ tools.same (row_words (length words.now) sets.now r) words.now }
 {
     let at = WORDS_A_ROW * r;
-    if i < words.len() {
-        if sets[at + i] != words[i] {
-            return false;
-        }
+    if i < words.len() && sets[at + i] != words[i] {
+        return false;
     }
+    // No `==`: that stops at a word that differs, and this looks at all of them side by side.
     same(&sets[at..at + words.len()], words)
-}
-
-// The search for a known set, from the greatest row of its bucket down, yields its row by break.
-fn find(sets: &[u64], nexts: &[u16], from: u16, words: &[u64], i: usize) -> Found
-    requires { (words_a_row * length nexts.now ≤ length sets.now) × ((length nexts.now ≤ rows_most) × ((length words.now ≤ words_a_row) × (Linked (length words.now) sets.now nexts.now (length nexts.now) × Greatest (bucket_at (length words.now) sets.now) (bucket_of words.now) (length nexts.now) from))) }
-    ensures { FoundAs (length words.now) sets.now (length nexts.now) words.now result }
-{
-    let mut r = from as usize;
-    let found = loop {
-        if r == 0 {
-            break Found::Nothing;
-        }
-        if has_set(sets, r, words, i) {
-            break Found::At(Row(r as u16));
-        }
-        r = nexts[r] as usize;
-    };
-    found
 }
 
 // Row r gets the set.
@@ -100,58 +86,57 @@ fn store(sets: &mut [u64], r: usize, words: &[u64])
     ensures { Stored (length words.now) sets.old sets.new r words.now }
 {
     let at = WORDS_A_ROW * r;
-    copy(&mut sets[at..at + words.len()], words);
+    sets[at..at + words.len()].copy_from_slice(words);
 }
 
-// The row of the set, whose bucket is k, sought by its word i; if it is none of the c rows that there are, it is listed after them.
-fn take_into(
-    sets: &mut [u64],
-    heads: &mut [u16],
-    nexts: &mut [u16],
-    c: usize,
-    room: usize,
-    words: &[u64],
-    k: usize,
-    i: usize,
-) -> Got
-    requires { Book (length words.now) room sets.old heads.old nexts.old c × ((length words.now ≤ words_a_row) × ((k ≡ bucket_of words.now) × (k ≤ buckets))) }
-    ensures { Took (length words.now) room sets.old c words.now sets.new heads.new nexts.new result }
-{
-    match find(sets, &nexts[..c], heads[k], words, i) {
-        Found::At(r) => Got::In(r, c),
-        Found::Nothing => {
-            if c == room {
-                return Got::Over;
+impl Known {
+    // The search for a known set, from the greatest row of its bucket k down, yields its row by break. Word i is looked at first.
+    fn find(&self, sets: &[u64], words: &[u64], k: usize, i: usize) -> Option<Row>
+        requires { Knows (length words.now) sets.now self.now × ((length words.now ≤ words_a_row) × ((k ≡ bucket_of words.now) × (k ≤ buckets))) }
+        ensures { FoundAs (length words.now) sets.now self.now.rows words.now result }
+    {
+        let mut r = self.heads[k] as usize;
+        loop {
+            if r == 0 {
+                break None;
             }
-            store(sets, c, words);
-            nexts[c] = heads[k];
-            heads[k] = c as u16;
-            Got::In(Row(c as u16), c + 1)
+            if has_set(sets, r, words, i) {
+                break Some(Row(r as u16));
+            }
+            r = self.nexts[r] as usize;
         }
     }
-}
 
-// The row of the set, whose words in use are those from `from` to `to`, listed where it is new. No search for the empty set: its
-// bucket has no other.
-pub fn take_in(
-    sets: &mut [u64],
-    heads: &mut [u16],
-    nexts: &mut [u16],
-    c: usize,
-    room: usize,
-    words: &[u64],
-    from: usize,
-    to: usize,
-) -> Got
-    requires { Book (length words.now) room sets.old heads.old nexts.old c × ((length words.now ≤ words_a_row) × Within from to words.now) }
-    ensures { Took (length words.now) room sets.old c words.now sets.new heads.new nexts.new result }
-{
-    let k = bucket(words, from, to);
-    if k == BUCKETS {
-        let r = heads[k];
-        if r != 0 {
-            return Got::In(Row(r), c);
+    // The row of the set, whose bucket is k, sought by its word i; if no row has it, it is listed after them.
+    fn take_into(&mut self, sets: &mut [u64], words: &[u64], k: usize, i: usize) -> Option<Row>
+        requires { Knows (length words.now) sets.old self.old × ((length words.now ≤ words_a_row) × ((k ≡ bucket_of words.now) × (k ≤ buckets))) }
+        ensures { Took (length words.now) sets.old self.old words.now sets.new self.new result }
+    {
+        if let Some(r) = self.find(sets, words, k, i) {
+            return Some(r);
         }
+        let c = self.rows;
+        if c == self.room {
+            return None;
+        }
+        store(sets, c, words);
+        self.nexts[c] = self.heads[k];
+        self.heads[k] = c as u16;
+        self.rows = c + 1;
+        Some(Row(c as u16))
     }
-    take_into(sets, heads, nexts, c, room, words, k, from)
+
+    // The row of the set, listed where it is new; or that there is no room for it. No search for the empty set: its bucket has no
+    // other.
+    pub fn take_in(&mut self, sets: &mut [u64], words: &[u64], used: Used) -> Option<Row>
+        requires { Knows (length words.now) sets.old self.old × ((length words.now ≤ words_a_row) × Within used.from used.to words.now) }
+        ensures { Took (length words.now) sets.old self.old words.now sets.new self.new result }
+    {
+        let k = bucket(words, used);
+        let r = self.heads[k];
+        if k == BUCKETS && r != 0 {
+            return Some(Row(r));
+        }
+        self.take_into(sets, words, k, used.from)
+    }
 }

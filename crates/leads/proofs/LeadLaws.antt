@@ -15,7 +15,7 @@ use Rattle.rules.proofs.Sets.{zero_has}
 use Rattle.sets.specs.Sets.{member, put_in, AllIn}
 use Rattle.sets.proofs.SetLaws.{put-long, put-in, put-still}
 use Rattle.grid.specs.Rows.{row_words}
-use Rattle.leads.specs.Leads.{Leads, Grown, RowListed, Touched, TouchedAll}
+use Rattle.leads.specs.Leads.{Leads, Grown, Touched, TouchedAll}
 
 -- ---- rows put down at their targets
 
@@ -23,9 +23,6 @@ use Rattle.leads.specs.Leads.{Leads, Grown, RowListed, Touched, TouchedAll}
 pub record Listing (cells bytes old : List ℕ) (i : ℕ) (new : List ℕ) (k : ℕ) : Type 0 where
   pub grown : Grown old new
   pub listed : (j : ℕ) → j < k → Leads new (get_or cells (256 * i + get_or bytes j 0) 0) i
-
-pub listing_none : (cells bytes old : List ℕ) (i : ℕ) → Listing cells bytes old i old 0
-listing_none cells bytes old i = record { grown = record { long = refl; still = λ x h. h }; listed = λ j l. absurd (omega arith) }
 
 pub listing-more : {cells bytes old new after : List ℕ} {i k t : ℕ} → Listing cells bytes old i new k → t ≡ get_or cells (256 * i + get_or bytes k 0) 0 → Grown new after → Leads after t i
     → Listing cells bytes old i after (k + 1)
@@ -38,13 +35,7 @@ listing-more {cells} {bytes} {old} {new} {after} {i} {k} {t} L e G h = record {
 pub put-grown : (old : List ℕ) {new : List ℕ} (t i : ℕ) → rows_most * t + i < 64 * length old → new ≡ put_in old (rows_most * t + i) → Grown old new × Leads new t i
 put-grown old t i l e = rw e (record { long = put-long old (rows_most * t + i); still = λ x h. put-still old (rows_most * t + i) x l h }, put-in old (rows_most * t + i) l)
 
-pub listed_more : (cells bytes : List ℕ) {old new : List ℕ} {i : ℕ} → Grown old new → ((j : ℕ) → j < i → RowListed cells bytes old j) → RowListed cells bytes new i → (j : ℕ) → j < i + 1 → RowListed cells bytes new j
-listed_more cells bytes {old} {new} {i} G f = below_more (RowListed cells bytes new) i (λ j lj k lk. G.still (rows_most * get_or cells (256 * j + get_or bytes k 0) 0 + j) (f j lj k lk))
-
 -- ---- rows that are touched
-
-pub grown-none : (set : List ℕ) → Grown set set
-grown-none set = record { long = refl; still = λ x h. h }
 
 pub grown-more : {a b c : List ℕ} → Grown a b → Grown b c → Grown a c
 grown-more G H = record { long = H.long ∙ G.long; still = λ x h. H.still x (G.still x h) }
@@ -90,12 +81,13 @@ module _ (order preds old : List ℕ) {new : List ℕ} (from p : ℕ) (wide : le
       same i = omega arith
 
       go : (q i : ℕ) → from ≤ q → q < p + 1 → i < rows_most → Leads preds (get_or order q 0) i → Dec (q ≡ p) → member new i ≡ true
-      go q i lo hi li h (yes e) = or-second (member old i) (member preds (64 * (row_words * get_or order p 0) + i)) (member new i) (A i (omega arith)) (ap (member preds) (same i) ∙ ap (λ (y : ℕ). member preds (rows_most * get_or order y 0 + i)) (sym e) ∙ h)
+      go q i lo hi li h (yes e) = or-second (member old i) (member preds (64 * (row_words * get_or order p 0) + i)) (member new i) (A i (omega arith))
+          (ap (member preds) (same i) ∙ ap (λ (y : ℕ). member preds (rows_most * get_or order y 0 + i)) (sym e) ∙ h)
       go q i lo hi li h (no e) = grown-put.still i (T q i lo (omega arith) li h)
 
 -- one stretch more
-pub all_more : (order start end preds : List ℕ) {old new : List ℕ} (from z : ℕ) → Grown old new → Touched order preds new (get_or start z 0) (get_or end z 0) → TouchedAll order start end preds old from z
-    → TouchedAll order start end preds new from (z + 1)
+pub all_more : (order start end preds : List ℕ) {old new : List ℕ} (from z : ℕ) → Grown old new → Touched order preds new (get_or start z 0) (get_or end z 0)
+    → TouchedAll order start end preds old from z → TouchedAll order start end preds new from (z + 1)
 all_more order start end preds {old} {new} from z G T A y lo hi = go (ℕ_discrete y z)
   where
     go : Dec (y ≡ z) → Touched order preds new (get_or start y 0) (get_or end y 0)

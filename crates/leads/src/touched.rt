@@ -11,15 +11,13 @@ fn touch(order: &[u16], preds: &[u64], from: usize, to: usize, set: &mut [u64])
     requires { Reach order.now preds.now × ((to ≤ length order.now) × (length set.old ≡ row_words)) }
     ensures { Grown set.old set.new × Touched order.now preds.now set.new from to }
 {
-    let mut p = from;
-    while p < to {
+    for p in from..to {
         let t = order[p] as usize;
         sets::put_all(set, preds, ROW_WORDS * t);
-        p += 1;
     }
 }
 
-// What leads to a row of the stretches from `from` to `many`.
+// What leads to a row of the stretches from `from` to `many`. The lists of the stretches are only read, so they are lent singly.
 pub fn list(
     order: &[u16],
     start: &[u16],
@@ -32,10 +30,8 @@ pub fn list(
     requires { Reach order.now preds.now × (Spans order.now start.now end.now many × (length set.old ≡ row_words)) }
     ensures { TouchedAll order.now start.now end.now preds.now set.new from many }
 {
-    sets::clear(set);
-    let mut z = from;
-    while z < many {
+    set.fill(0);
+    for z in from..many {
         touch(order, preds, start[z] as usize, end[z] as usize, set);
-        z += 1;
     }
 }

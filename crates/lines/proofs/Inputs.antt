@@ -1,13 +1,18 @@
 -- An input's final byte 10, and how much of an input decides what is printed.
 use mathlib.Core.Path.{◌≡◌, refl, sym, ap, ◌∙◌}
+use mathlib.Core.Bool.{true, false}
 use mathlib.Core.List.{List, [], ◌∷◌}
-use Prim.Native.Nat.{ℕ, zero, suc, ◌+◌, ◌≤◌, ◌<◌}
+use Prim.Native.Nat.{ℕ, zero, suc, ◌+◌, ◌-◌, ◌≤◌, ◌<◌}
 use native.Mathlib.Decide.{dec_lt}
 use native.Mathlib.Omega.{arith}
 use borrow.Author.Tests.{eq-eqb, ne_eqb, lt-ltb}
-use lib.ListN.{length, get_or, take}
+use lib.ListN.{length, get_or, take, drop}
 use lib.Seq.{take_all, length-take-le}
 use denote.Ref.{Bor}
+use Rattle.std.specs.Prelude.{nat_eq}
+use Rattle.std.specs.List.{ends_with}
+use Rattle.std.specs.Cmp.Lexicographic.{same_text, other_text}
+use lib.Pointwise.{pointwise}
 use Rattle.rules.specs.Sizes.{pattern_most, listing_rows}
 use Rattle.rules.specs.Answers.{refused, refusal}
 use Rattle.rules.specs.Compile.{Room, drawn}
@@ -16,23 +21,26 @@ use Rattle.writing.proofs.Cases.{if-true, if-false}
 use Rattle.lines.specs.Inputs.{PatternPart}
 
 -- n is the last place
-pub line-end-dropped : (input : List ℕ) (n : ℕ) → length input ≡ suc n → get_or input n 0 ≡ 10 → without_line_end input ≡ take n input
-line-end-dropped [] n l e = absurd (omega arith)
-line-end-dropped (b ∷ []) zero l e = if-true _ _ (eq-eqb b 10 e)
-line-end-dropped (b ∷ []) (suc n) l e = absurd (omega arith)
-line-end-dropped (b ∷ c ∷ s) zero l e = absurd (omega arith)
-line-end-dropped (b ∷ c ∷ s) (suc n) l e = ap (λ (r : List ℕ). b ∷ r) (line-end-dropped (c ∷ s) n (omega arith) e)
+dropped : (input : List ℕ) (n : ℕ) → length input ≡ suc n → pointwise nat_eq (10 ∷ []) (drop n input) ≡ true → take n input ≡ without_line_end input
+dropped [] n l e = absurd (omega arith)
+dropped (b ∷ []) zero l e = sym (if-true _ _ (eq-eqb b 10 (sym (ap (λ (s : List ℕ). get_or s 0 0) (same_text (10 ∷ []) (b ∷ []) (sym e))))))
+dropped (b ∷ []) (suc n) l e = absurd (omega arith)
+dropped (b ∷ c ∷ s) zero l e = absurd (omega arith)
+dropped (b ∷ c ∷ s) (suc n) l e = ap (λ (r : List ℕ). b ∷ r) (dropped (c ∷ s) n (omega arith) e)
 
-pub no-line-end : (input : List ℕ) (n : ℕ) → length input ≡ suc n → (get_or input n 0 ≡ 10 → ⊥) → without_line_end input ≡ input
-no-line-end [] n l e = absurd (omega arith)
-no-line-end (b ∷ []) zero l e = if-false _ _ (ne_eqb b 10 e)
-no-line-end (b ∷ []) (suc n) l e = absurd (omega arith)
-no-line-end (b ∷ c ∷ s) zero l e = absurd (omega arith)
-no-line-end (b ∷ c ∷ s) (suc n) l e = ap (λ (r : List ℕ). b ∷ r) (no-line-end (c ∷ s) n (omega arith) e)
+kept : (input : List ℕ) (n : ℕ) → length input ≡ suc n → pointwise nat_eq (10 ∷ []) (drop n input) ≡ false → input ≡ without_line_end input
+kept [] n l e = refl
+kept (b ∷ []) zero l e = sym (if-false _ _ (ne_eqb b 10 (λ q. other_text (10 ∷ []) (b ∷ []) (sym e) (ap (λ (x : ℕ). x ∷ []) (sym q)))))
+kept (b ∷ []) (suc n) l e = absurd (omega arith)
+kept (b ∷ c ∷ s) zero l e = absurd (omega arith)
+kept (b ∷ c ∷ s) (suc n) l e = ap (λ (r : List ℕ). b ∷ r) (kept (c ∷ s) n (omega arith) e)
 
-pub nothing_left : (input : List ℕ) → length input ≡ 0 → input ≡ without_line_end input
-nothing_left [] e = refl
-nothing_left (b ∷ s) e = absurd (omega arith)
+pub line-end-dropped : (input : List ℕ) → 1 ≤ length input → ends_with nat_eq input (10 ∷ []) ≡ true → take (length input - 1) input ≡ without_line_end input
+line-end-dropped input h e = dropped input (length input - 1) (omega arith) e
+
+pub no-line-end : (input : List ℕ) → ends_with nat_eq input (10 ∷ []) ≡ false → input ≡ without_line_end input
+no-line-end [] e = refl
+no-line-end (b ∷ s) e = kept (b ∷ s) (length (b ∷ s) - 1) (omega arith) e
 
 -- no second part of the input fits what `pattern_of` promises
 pub pattern-once : (t r q : Bor (List ℕ)) → PatternPart t r → PatternPart t q → (r.ref_ptr.0 ≡ q.ref_ptr.0) × (r.ref_ptr.1 ≡ q.ref_ptr.1) × (r.now ≡ q.now)

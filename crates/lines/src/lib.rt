@@ -1,56 +1,52 @@
 // A pattern as a line of an input, and the line of a refusal, written into a lent buffer.
 #![tactic(auto)]
 
-ghost use Rattle.std.specs.Prelude.{◌≡◌};
+ghost use Rattle.std.specs.Prelude.{◌≡◌, Ok};
 ghost use Rattle.rules.specs.Answers.{refusal, refused, given};
 ghost use Rattle.rules.specs.Listing.{listing};
 ghost use Rattle.kinds.specs.Refusals.{refusal_of};
-ghost use Rattle.writing.specs.Writing.{Room, Writes};
+ghost use Rattle.writing.specs.Writing.{Puts};
 ghost use Rattle.writing.specs.Texts.{shown, shown_in};
 ghost use Rattle.lines.specs.Inputs.{PatternPart};
 
-use answers::Text;
+use answers::Written;
 use kinds::Refusal;
-use writing::{answer, put, put_all, put_number};
+use writing::Page;
 
 // The input less one final byte 10, as a part of the input itself.
 pub fn pattern_of(input: &[u8]) -> &[u8]
     ensures { PatternPart input.entry result }
 {
-    let n = input.len();
-    if n == 0 {
-        return input;
+    if input.ends_with(b"\n") {
+        &input[..input.len() - 1]
+    } else {
+        input
     }
-    let last = n - 1;
-    if input[last] == b'\n' {
-        return &input[..last];
-    }
-    input
 }
 
 // The line of a refusal, of its number and its place.
-pub fn put_refused(out: &mut [u8], at: usize, number: u32, place: u32) -> usize
-    requires { Room at (listing (refused (refusal number place))) }
-    ensures { Writes out.old at (listing (refused (refusal number place))) out.new result }
+pub fn put_refused(page: &mut Page<'_>, number: u32, place: u32)
+    ensures { Puts page.old (listing (refused (refusal number place))) page.new }
 {
-    let here = put_all(out, at, b"refused ");
-    let here = put_number(out, here, number);
-    let here = put_all(out, here, b" at ");
-    let here = put_number(out, here, place);
-    put(out, here, b'\n')
+    page.put_all(b"refused ");
+    page.put_number(number);
+    page.put_all(b" at ");
+    page.put_number(place);
+    page.put(b'\n');
 }
 
 // The line of a refusal with any number and any place.
-pub fn write_refused(number: u32, place: u32, out: &mut [u8]) -> Text
-    ensures { shown result out.new ≡ shown_in out.old (given (listing (refused (refusal number place)))) }
+pub fn write_refused(number: u32, place: u32, out: &mut [u8]) -> Written
+    ensures { shown (Ok result) out.new ≡ shown_in out.old (given (listing (refused (refusal number place)))) }
 {
-    let n = put_refused(out, 0, number, place);
-    answer(n, out.len())
+    let mut page = Page::on(out);
+    put_refused(&mut page, number, place);
+    page.written()
 }
 
 // The line of a refusal.
-pub fn write_refusal(refusal: Refusal, out: &mut [u8]) -> Text
-    ensures { shown result out.new ≡ shown_in out.old (given (listing (refused (refusal_of refusal)))) }
+pub fn write_refusal(refusal: Refusal, out: &mut [u8]) -> Written
+    ensures { shown (Ok result) out.new ≡ shown_in out.old (given (listing (refused (refusal_of refusal)))) }
 {
-    write_refused(kinds::number(refusal), kinds::place(refusal), out)
+    write_refused(refusal.number(), refusal.place(), out)
 }

@@ -29,4 +29,9 @@ module _ {w : Table} (f : WellFormed w) where
   unfolding listing
   listing-most =
       simp length-append
-      (omega (arith, decimal-short 3 w.count (omega (arith, f.few-rows)), decimal-short 3 w.head (omega (arith, f.few-rows, f.formed.head-row)), rows-most (row_line w) 3335 0 w.count (λ q l. line-most (omega arith))))
+      (omega (
+        arith,
+        decimal-short 3 w.count (omega (arith, f.few-rows)),
+        decimal-short 3 w.head (omega (arith, f.few-rows, f.formed.head-row)),
+        rows-most (row_line w) 3335 0 w.count (λ q l. line-most (omega arith)),
+      ))

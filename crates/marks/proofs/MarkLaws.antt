@@ -10,11 +10,10 @@ use lib.ListN.{length, get_or, set, replicate, length-set, length-replicate}
 use lib.Seq.{get_or-set_same, get_or-set_other}
 use Rattle.chains.specs.Chains.{Labelled}
 use Rattle.chains.proofs.ChainLaws.{labels-none, joined, opened}
-use Rattle.marks.specs.Marks.{MarkedTo, ByMarks}
-
--- the n rows are of one class
-abbrev Alike : List ℕ → ℕ → Type 0
-Alike class n = (i j : ℕ) → i < n → j < n → get_or class i 0 ≡ get_or class j 0
+use Rattle.chains.specs.Lent.{RoomFor}
+use Rattle.chains.specs.declared.Groups.{Groups}
+use Rattle.marks.specs.Marks.{MarkedTo}
+use Rattle.marks.specs.Lent.{MarkedTo_in}
 
 -- before any row is sorted
 pub marked-none : (marks seen prior last : List ℕ) (n : ℕ) → MarkedTo marks (replicate 256 0) seen prior last n 0 0
@@ -39,6 +38,9 @@ module _ {marks group seen prior last : List ℕ} {n groups r : ℕ} (T : Marked
   pub labels : Labelled T.label [] seen prior last n r groups
   labels = T.labelled [] (λ i j li lj. refl)
 
+  pub few : groups ≤ r
+  few = labels.few
+
   below : (i : ℕ) → i < r → get_or seen i 0 < r
   below i l = omega (arith, T.seen-row i l)
 
@@ -54,7 +56,7 @@ module _ {marks group seen prior last : List ℕ} {n groups r : ℕ} (T : Marked
     seen-rows = below_more (λ i. get_or (set seen r r) i 0 ≡ i) r (λ i l. get_or-set_other seen r i r 0 (omega arith) ∙ T.seen-row i l) (get_or-set_same seen r r 0 seen-room)
 
     -- its mark came before
-    pub marked-joined : (g : ℕ) → get_or group (get_or marks r 0) 0 ≡ g → g ≢ 0
+    marked-joined : (g : ℕ) → get_or group (get_or marks r 0) 0 ≡ g → g ≢ 0
         → MarkedTo marks group (set seen r r) (set prior r (get_or last (g - 1) 0)) (set last (g - 1) (r + 1)) n groups (r + 1)
     marked-joined g e ne = record {
       label = set T.label r (g - 1);
@@ -79,7 +81,7 @@ module _ {marks group seen prior last : List ℕ} {n groups r : ℕ} (T : Marked
       came : (i : ℕ) → i < r → get_or marks i 0 ≢ m
       came i l q = T.known i l (ap (λ (x : ℕ). get_or group x 0) q ∙ new)
 
-      pub marked-opened : MarkedTo marks (set group m (groups + 1)) (set seen r r) (set prior r (get_or (set last groups 0) groups 0)) (set (set last groups 0) groups (r + 1))
+      marked-opened : MarkedTo marks (set group m (groups + 1)) (set seen r r) (set prior r (get_or (set last groups 0) groups 0)) (set (set last groups 0) groups (r + 1))
           n (groups + 1) (r + 1)
       marked-opened = record {
         label = set T.label r groups;
@@ -105,17 +107,18 @@ module _ {marks group seen prior last : List ℕ} {n groups r : ℕ} (T : Marked
           one k j ne q (no a) (yes b) = absurd (omega (arith, old k a, T.low k, rw b at q, here))
           one k j ne q (no a) (no b) = T.one k j (λ z. ne (old k a ∙ z)) (sym (old k a) ∙ q ∙ old j b)
 
--- all rows are sorted
-pub marked_all : {marks group seen prior last : List ℕ} {n groups r : ℕ} → MarkedTo marks group seen prior last n groups r → r ≡ n
-    → (class : List ℕ) → Alike class n → ByMarks marks class seen prior last n groups
-marked_all {marks} {group} {n = n} {r = r} T all class one = record {
-  label = T.label;
-  count = r;
-  labelled = T.labelled class one;
-  like = λ i j li lj e. T.one (get_or marks i 0) (get_or marks j 0) (T.known i (sorted i li))
-      (omega (arith, e, T.is i (sorted i li), T.is j (sorted j lj), T.known i (sorted i li), T.known j (sorted j lj)));
-  fair = λ i j li lj e. T.is i (sorted i li) ∙ ap (λ (x : ℕ). get_or group x 0 - 1) e ∙ sym (T.is j (sorted j lj));
-}
-  where
-    sorted : (i : ℕ) → i < n → i < r
-    sorted i l = omega arith
+-- row r joins the group of its mark, or opens one
+module _ {marks group : List ℕ} {groups : Groups} {count r : ℕ} (T : MarkedTo_in marks group groups count r) (room : RoomFor groups (length marks)) (r-in : r < length marks) where
+  pub known_group : get_or group (get_or marks r 0) 0 ≢ 0 → get_or group (get_or marks r 0) 0 - 1 < length groups.last.now
+  known_group ne = omega (arith, T.low (get_or marks r 0), (labels T).last-long)
+
+  pub row_joined : (new : Groups) → get_or group (get_or marks r 0) 0 ≢ 0 → new.seen.now ≡ set groups.seen.now r r
+      → new.prior.now ≡ set groups.prior.now r (get_or groups.last.now (get_or group (get_or marks r 0) 0 - 1) 0)
+      → new.last.now ≡ set groups.last.now (get_or group (get_or marks r 0) 0 - 1) (r + 1) → MarkedTo_in marks group new count (r + 1)
+  row_joined new ne s p l = rw (s, p, l) (marked-joined T r-in (omega (arith, room.seen-long)) (omega (arith, room.prior-long)) _ refl ne)
+
+  pub row_opened : (new : Groups) → get_or group (get_or marks r 0) 0 ≡ 0 → get_or marks r 0 < 256 → new.seen.now ≡ set groups.seen.now r r
+      → new.prior.now ≡ set groups.prior.now r (get_or (set groups.last.now count 0) count 0) → new.last.now ≡ set (set groups.last.now count 0) count (r + 1)
+      → MarkedTo_in marks (set group (get_or marks r 0) (count + 1)) new (count + 1) (r + 1)
+  row_opened new e byte s p l =
+      rw (s, p, l) (marked-opened T r-in (omega (arith, room.seen-long)) (omega (arith, room.prior-long)) (omega (arith, room.last-long, few T)) refl byte e)

@@ -55,10 +55,12 @@ module _ (cells marks : List ℕ) (n : ℕ) (room : 256 * n ≤ length cells) (m
       → Stands (merged (rows_of cells n) (take n marks)) (cells' ++ drop (256 * n) cells) (marks' ++ drop n marks) rows head
   front-stands {cells'} {marks'} {rows} {head} G = λ s. go (subst (λ (r : List (List ℕ)). Stands (merged r (take n marks)) cells' marks' rows head) front-rows s)
     where
-      go : Stands (merged (rows_of cells n) (take n marks)) cells' marks' rows head → Stands (merged (rows_of cells n) (take n marks)) (cells' ++ drop (256 * n) cells) (marks' ++ drop n marks) rows head
+      go : Stands (merged (rows_of cells n) (take n marks)) cells' marks' rows head
+          → Stands (merged (rows_of cells n) (take n marks)) (cells' ++ drop (256 * n) cells) (marks' ++ drop n marks) rows head
       go s = record {
         count = s.count;
         first = s.first;
-        cells-front = take-append-le (256 * rows) cells' (drop (256 * n) cells) (omega (arith, ap length s.cells-front, length-take (256 * rows) cells', (merged-exact G).cells-exact, s.count)) ∙ s.cells-front;
+        cells-front = take-append-le (256 * rows) cells' (drop (256 * n) cells)
+            (omega (arith, ap length s.cells-front, length-take (256 * rows) cells', (merged-exact G).cells-exact, s.count)) ∙ s.cells-front;
         marks-front = take-append-le rows marks' (drop n marks) (omega (arith, ap length s.marks-front, length-take rows marks', (merged-exact G).marks-exact, s.count)) ∙ s.marks-front;
       }

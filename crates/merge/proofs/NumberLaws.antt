@@ -44,7 +44,8 @@ kept_more f q = from 0 q ∙ ap (λ (x : ℕ). kept f (up_from 0 q) ++ one x (f 
         shift = omega arith
 
         go : (b : Bool) → kept f (up_from (suc m) (suc c)) ≡ kept f (up_from (suc m) c) ++ one (m + suc c) (f (m + suc c))
-            → elim b [ true ↦ m ∷ kept f (up_from (suc m) (suc c)) | false ↦ kept f (up_from (suc m) (suc c)) ] ≡ elim b [ true ↦ m ∷ kept f (up_from (suc m) c) | false ↦ kept f (up_from (suc m) c) ] ++ one (m + suc c) (f (m + suc c))
+            → elim b [ true ↦ m ∷ kept f (up_from (suc m) (suc c)) | false ↦ kept f (up_from (suc m) (suc c)) ]
+            ≡ elim b [ true ↦ m ∷ kept f (up_from (suc m) c) | false ↦ kept f (up_from (suc m) c) ] ++ one (m + suc c) (f (m + suc c))
         go true e = ap (λ (l : List ℕ). m ∷ l) e
         go false e = e
 
@@ -133,29 +134,6 @@ module _ {class number : List ℕ} {k q : ℕ} (C : Counting class number k q) (
   pub counting-led : Names class → get_or class q 0 ≢ q → Counting class (set number q (get_or number (get_or class q 0) 0)) k (q + 1)
   counting-led N n = numbered (C.count ∙ sym (rank_same class q n)) (C.numbers (get_or class q 0) (omega (arith, N.low q l)) ∙ ap (rank class) (N.named q l))
 
--- ---- one row moved down, cell by cell
-
-pub moved_none : (old number : List ℕ) (i q : ℕ) → Moved old number old i q 0
-moved_none old number i q = record { long = refl; moved = λ b l. absurd (omega arith); below = λ j l. refl; above = λ j l. refl }
-
-module _ {old number new : List ℕ} {i q b : ℕ} (M : Moved old number new i q b) where
-  -- the cell to be moved is as it was
-  pub cell-read : i ≤ q → get_or new (256 * q + b) 0 ≡ get_or old (256 * q + b) 0
-  cell-read l = M.above (256 * q + b) (omega arith)
-
-  pub moved_more : i ≤ q → b < 256 → 256 * q + 256 ≤ length old → Moved old number (set new (256 * i + b) (get_or number (get_or new (256 * q + b) 0) 0)) i q (b + 1)
-  moved_more l lb room = record {
-    long = length-set new (256 * i + b) v ∙ M.long;
-    moved = below_more (λ x. get_or (set new (256 * i + b) v) (256 * i + x) 0 ≡ get_or number (get_or old (256 * q + x) 0) 0) b
-        (λ x lx. get_or-set_other new (256 * i + b) (256 * i + x) v 0 (omega arith) ∙ M.moved x lx)
-        (get_or-set_same new (256 * i + b) v 0 (omega (arith, M.long)) ∙ ap (λ (z : ℕ). get_or number z 0) (cell-read l));
-    below = λ j lj. get_or-set_other new (256 * i + b) j v 0 (omega arith) ∙ M.below j lj;
-    above = λ j lj. get_or-set_other new (256 * i + b) j v 0 (omega arith) ∙ M.above j (omega arith);
-  }
-    where
-      v : ℕ
-      v = get_or number (get_or new (256 * q + b) 0) 0
-
 -- ---- the kept rows moved down, row by row
 
 -- the kept ones of the rows before row q stand at their numbers, and k rows of them are kept; later rows are as they were
@@ -198,7 +176,8 @@ module _ {cells₀ marks₀ class number cells marks : List ℕ} {k q : ℕ} (D 
     marks-rest = λ j lj. D.marks-rest j (omega arith);
   }
 
-  pub down-move : {cells' : List ℕ} → get_or class q 0 ≡ q → q < length marks → Moved cells number cells' k q 256 → Down cells₀ marks₀ class number cells' (set marks k (get_or marks q 0)) (k + 1) (q + 1)
+  pub down-move : {cells' : List ℕ} → get_or class q 0 ≡ q → q < length marks → Moved cells number cells' k q 256
+      → Down cells₀ marks₀ class number cells' (set marks k (get_or marks q 0)) (k + 1) (q + 1)
   down-move {cells'} e room M = record {
     cells-long = M.long ∙ D.cells-long;
     marks-long = length-set marks k (get_or marks q 0) ∙ D.marks-long;

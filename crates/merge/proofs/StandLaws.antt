@@ -62,8 +62,10 @@ module _ (cells : List ℕ) {marks : List ℕ} (n : ℕ) (G : Grid (rows_of cell
   stands {number'} {cells'} {marks'} {rows} R marked N L = record {
     count = is-count;
     first = N.numbers 1 (omega (arith, classes-long, two-rows)) ∙ sym (number_is 1 two-rows);
-    cells-front = ext_get_or 0 (take (256 * rows) cells') (merged (rows_of cells n) marks).cells (omega (arith, cells-length, (merged-exact G).cells-exact, is-count)) (λ j l. one_cell j (omega (arith, cells-length)));
-    marks-front = ext_get_or 0 (take rows marks') (merged (rows_of cells n) marks).marks (omega (arith, marks-length, (merged-exact G).marks-exact, is-count)) (λ j l. one-mark j (omega (arith, marks-length)));
+    cells-front = ext_get_or 0 (take (256 * rows) cells') (merged (rows_of cells n) marks).cells (omega (arith, cells-length, (merged-exact G).cells-exact, is-count))
+        (λ j l. one_cell j (omega (arith, cells-length)));
+    marks-front = ext_get_or 0 (take rows marks') (merged (rows_of cells n) marks).marks (omega (arith, marks-length, (merged-exact G).marks-exact, is-count))
+        (λ j l. one-mark j (omega (arith, marks-length)));
   }
     where
       is-count : rows ≡ length (keep G)
@@ -94,13 +96,15 @@ module _ (cells : List ℕ) {marks : List ℕ} (n : ℕ) (G : Grid (rows_of cell
           target = cell_in R (row k l) b (row_in k l) lb
 
       one_cell : (j : ℕ) → j < 256 * rows → get_or (take (256 * rows) cells') j 0 ≡ get_or (merged (rows_of cells n) marks).cells j 0
-      one_cell j l = get_or-take (256 * rows) cells' j 0 l ∙ subst (λ (x : ℕ). get_or cells' x 0 ≡ get_or (merged (rows_of cells n) marks).cells x 0) split (cell-is (j / 256) (j % 256) (omega (arith, is-count)) (omega arith))
+      one_cell j l = get_or-take (256 * rows) cells' j 0 l ∙ subst (λ (x : ℕ). get_or cells' x 0 ≡ get_or (merged (rows_of cells n) marks).cells x 0) split
+          (cell-is (j / 256) (j % 256) (omega (arith, is-count)) (omega arith))
         where
           split : 256 * (j / 256) + j % 256 ≡ j
           split = omega arith
 
       one-mark : (k : ℕ) → k < rows → get_or (take rows marks') k 0 ≡ get_or (merged (rows_of cells n) marks).marks k 0
-      one-mark k l = get_or-take rows marks' k 0 l ∙ ap (λ (x : ℕ). get_or marks' x 0) (sym (row-rank k lk)) ∙ L.marks-down (row k lk) (in-class (row_in k lk)) (kept-own G k lk) ∙ sym (kept-mark G k lk)
+      one-mark k l = get_or-take rows marks' k 0 l ∙ ap (λ (x : ℕ). get_or marks' x 0) (sym (row-rank k lk))
+          ∙ L.marks-down (row k lk) (in-class (row_in k lk)) (kept-own G k lk) ∙ sym (kept-mark G k lk)
         where
           lk : k < length (keep G)
           lk = omega (arith, is-count)
@@ -119,4 +123,5 @@ module _ (cells : List ℕ) {marks : List ℕ} (n : ℕ) (G : Grid (rows_of cell
 
     pub table-stands : {number' cells' marks' : List ℕ} {rows : ℕ} → Rows cells n → length marks ≡ n → Numbering class number' rows → Lowered class number' cells marks cells' marks'
         → Stands (merged (rows_of cells n) marks) cells' marks' rows (get_or number' 1 0)
-    table-stands {number'} {cells'} {marks'} {rows} R marked N L = stands R marked (subst (λ (c : List ℕ). Numbering c number' rows) e N) (subst (λ (c : List ℕ). Lowered c number' cells marks cells' marks') e L)
+    table-stands {number'} {cells'} {marks'} {rows} R marked N L =
+        stands R marked (subst (λ (c : List ℕ). Numbering c number' rows) e N) (subst (λ (c : List ℕ). Lowered c number' cells marks cells' marks') e L)

@@ -14,14 +14,14 @@ use kinds::{ROWS, Row};
 mod lower;
 mod numbers;
 
-// The rows of the merged table, and its head row.
+// The rows of the merged table, and its head row. `answers` has its like, on which merging does not stand.
 #[derive(Drop)]
 pub struct Merged {
     pub rows: u16,
     pub head: Row,
 }
 
-// Room that is lent for just the rows that there are.
+// Room that is lent for just the rows that there are. The lists stay single: each is lent on to a part of its own.
 fn merge_all(
     cells: &mut [u16],
     marks: &mut [u8],
@@ -37,10 +37,9 @@ fn merge_all(
     parting::name(cells, marks, preds, class, number, order, touched);
     let rows = numbers::give(class, number);
     lower::move_down(cells, marks, class, number);
-    let head = Row(number[1]);
     Merged {
-        rows: rows,
-        head: head,
+        rows,
+        head: Row(number[1]),
     }
 }
 

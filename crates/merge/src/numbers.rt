@@ -6,12 +6,11 @@ ghost use Rattle.merge.specs.Numbers.{Numbering};
 
 // The new number of each row; how many rows are kept.
 pub fn give(class: &[u16], number: &mut [u16]) -> u16
-    requires { Names class.now × ((length class.now ≤ rows_most) × (length number.old ≡ length class.now)) }
+    requires { Names class.now × (length class.now ≤ rows_most) × (length number.old ≡ length class.now) }
     ensures { Numbering class.now number.new result }
 {
     let mut k: u16 = 0;
-    let mut q: usize = 0;
-    while q < class.len() {
+    for q in 0..class.len() {
         let l = class[q] as usize;
         if l == q {
             number[q] = k;
@@ -19,7 +18,6 @@ pub fn give(class: &[u16], number: &mut [u16]) -> u16
         } else {
             number[q] = number[l];
         }
-        q += 1;
     }
     k
 }

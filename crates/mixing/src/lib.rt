@@ -7,6 +7,7 @@ ghost use Rattle.mixing.specs.Mixing.{buckets, mixed, bucket_for};
 pub const BUCKETS: usize = 1024;
 
 // A number mixed; there is room above it for a small one more.
+#[tactic(auto, using(crate::proofs::MixingLaws::mixed_lt))]
 pub fn mix(h: u64) -> u64
     ensures { (result ≡ mixed h) × (result < 17293822569102704640) }
 {

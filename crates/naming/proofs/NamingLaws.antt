@@ -6,20 +6,12 @@ use Prim.Native.Nat.{ℕ, ◌+◌, ◌≤◌, ◌<◌}
 use native.Mathlib.Decide.{ℕ_discrete}
 use native.Mathlib.Omega.{arith}
 use borrow.Author.Count.{below_more}
-use lib.ListN.{length, get_or, set, replicate, length-set, length-replicate, get_or-replicate}
+use lib.ListN.{length, get_or, set, length-set}
 use lib.Seq.{get_or-set_same, get_or-set_other}
 use Rattle.rules.specs.Sizes.{rows_most}
-use Rattle.naming.specs.Naming.{LeastOf, FirstOf, NamedTo}
+use Rattle.naming.specs.Naming.{LeastOf, FirstOf, NamedTo, Numbers}
 
-pub named_none : (number class : List ℕ) {first : List ℕ} → first ≡ replicate (length number) rows_most → length class ≡ length number → NamedTo number first class 0
-named_none number class {first} e l = record {
-  first-long = ap length e ∙ length-replicate {A = ℕ} (length number) rows_most;
-  class-long = l;
-  known = λ c lc. inl (ap (λ (x : List ℕ). get_or x c 0) e ∙ get_or-replicate (length number) c rows_most 0 lc, λ j lj. absurd (omega arith));
-  least = λ j lj. absurd (omega arith);
-}
-
-module _ {number first class : List ℕ} {r : ℕ} (N : NamedTo number first class r) (few : length number ≤ rows_most) (lr : r < length number) (lc : get_or number r 0 < length number) where
+module _ {number first class : List ℕ} {r : ℕ} (N : NamedTo number first class r) (U : Numbers number) (lr : r < length number) where
   in-class : r < length class
   in-class = omega (arith, N.class-long)
 
@@ -31,19 +23,19 @@ module _ {number first class : List ℕ} {r : ℕ} (N : NamedTo number first cla
     known = λ c h. keep c (N.known c h) (ℕ_discrete (get_or number r 0) c);
     least = below_more (λ j. LeastOf number j (get_or (set class r (get_or first (get_or number r 0) 0)) j 0)) r
         (λ j lj. subst (LeastOf number j) (sym (get_or-set_other class r j (get_or first (get_or number r 0) 0) 0 (omega arith))) (N.least j lj))
-        (subst (LeastOf number r) (sym (get_or-set_same class r (get_or first (get_or number r 0) 0) 0 in-class)) (own (N.known (get_or number r 0) lc)));
+        (subst (LeastOf number r) (sym (get_or-set_same class r (get_or first (get_or number r 0) 0) 0 in-class)) (own (N.known (get_or number r 0) (U.low r lr))));
   }
     where
       own : FirstOf number first r (get_or number r 0) → LeastOf number r (get_or first (get_or number r 0) 0)
-      own k = ⊎_elim (λ x. absurd (omega (arith, x.0, l, few))) (λ x. record { below = omega (arith, x.0); like = x.1; none = x.2 }) k
+      own k = ⊎_elim (λ x. absurd (omega (arith, x.0, l, U.few))) (λ x. record { below = omega (arith, x.0); like = x.1; none = x.2 }) k
 
       keep : (c : ℕ) → FirstOf number first r c → Dec (get_or number r 0 ≡ c) → FirstOf number first (r + 1) c
-      keep c k (yes e) = ⊎_elim (λ x. absurd (omega (arith, x.0, subst (λ (z : ℕ). get_or first z 0 < r) e l, few))) (λ x. inr (omega (arith, x.0), x.1, x.2)) k
+      keep c k (yes e) = ⊎_elim (λ x. absurd (omega (arith, x.0, subst (λ (z : ℕ). get_or first z 0 < r) e l, U.few))) (λ x. inr (omega (arith, x.0), x.1, x.2)) k
       keep c k (no e) = ⊎_elim (λ x. inl (x.0, below_more (λ j. get_or number j 0 ≢ c) r x.1 e)) (λ x. inr (omega (arith, x.0), x.1, x.2)) k
 
   -- a class that comes first with row r
-  pub named-first : r ≤ get_or first (get_or number r 0) 0 → NamedTo number (set first (get_or number r 0) r) (set class r r) (r + 1)
-  named-first l = record {
+  pub named_first : r ≤ get_or first (get_or number r 0) 0 → NamedTo number (set first (get_or number r 0) r) (set class r r) (r + 1)
+  named_first l = record {
     first-long = length-set first (get_or number r 0) r ∙ N.first-long;
     class-long = length-set class r r ∙ N.class-long;
     known = λ c h. keep c (N.known c h) (ℕ_discrete (get_or number r 0) c);
@@ -53,10 +45,10 @@ module _ {number first class : List ℕ} {r : ℕ} (N : NamedTo number first cla
   }
     where
       none : (j : ℕ) → j < r → get_or number j 0 ≢ get_or number r 0
-      none j lj = ⊎_elim (λ x. x.1 j lj) (λ x. absurd (omega (arith, x.0, l))) (N.known (get_or number r 0) lc)
+      none j lj = ⊎_elim (λ x. x.1 j lj) (λ x. absurd (omega (arith, x.0, l))) (N.known (get_or number r 0) (U.low r lr))
 
       here : get_or (set first (get_or number r 0) r) (get_or number r 0) 0 ≡ r
-      here = get_or-set_same first (get_or number r 0) r 0 (omega (arith, N.first-long, lc))
+      here = get_or-set_same first (get_or number r 0) r 0 (omega (arith, N.first-long, U.low r lr))
 
       own : FirstOf number (set first (get_or number r 0) r) (r + 1) (get_or number r 0)
       own = inr (omega (arith, here), ap (λ (x : ℕ). get_or number x 0) here, λ j lj. none j (omega (arith, here, lj)))

@@ -11,7 +11,8 @@ pub record LeastOf (number : List ℕ) (i p : ℕ) : Type 0 where
 -- no row before row r is of class c, and none is noted; or the least such row is
 abbrev pub FirstOf : List ℕ → List ℕ → ℕ → ℕ → Type 0
 FirstOf number first r c =
-    ((get_or first c 0 ≡ rows_most) × ((j : ℕ) → j < r → get_or number j 0 ≢ c)) ⊎ ((get_or first c 0 < r) × (get_or number (get_or first c 0) 0 ≡ c) × ((j : ℕ) → j < get_or first c 0 → get_or number j 0 ≢ c))
+    ((get_or first c 0 ≡ rows_most) × ((j : ℕ) → j < r → get_or number j 0 ≢ c))
+    ⊎ ((get_or first c 0 < r) × (get_or number (get_or first c 0) 0 ≡ c) × ((j : ℕ) → j < get_or first c 0 → get_or number j 0 ≢ c))
 
 -- the rows before row r are named by the least rows of their classes
 pub record NamedTo (number first class : List ℕ) (r : ℕ) : Type 0 where

@@ -2,7 +2,7 @@
 use mathlib.Core.Path.{◌≡◌, refl}
 use mathlib.Core.Bool.{Bool, true}
 use mathlib.Core.List.{List, [], ◌∷◌}
-use Prim.Native.Nat.{ℕ, zero, suc, ◌+◌, ◌-◌, ◌≤◌, ◌<◌}
+use Prim.Native.Nat.{ℕ, zero, suc, ◌+◌, ◌≤◌, ◌<◌}
 use native.Mathlib.Omega.{arith}
 use Rattle.rules.specs.Tools.{copies}
 use Rattle.rules.specs.Sizes.{nodes_most}
@@ -10,24 +10,12 @@ use Rattle.rules.specs.Nodes.{empty, Frag, size, one, around, joined, all_joined
 use Rattle.kinds.specs.declared.Node.{Node}
 use Rattle.spine.specs.Parts.{Part}
 use Rattle.nodes.specs.declared.fragment.Copies.{Copies}
-use Rattle.entries.specs.declared.Step.TheVariants.{To}
-use Rattle.entries.specs.Entries.{Lists, Room, Links}
+use Rattle.entries.specs.Entries.{Links}
+use Rattle.entries.specs.declared.Entry.{Entry}
+use Rattle.entries.specs.declared.Kind.TheVariants.{Empty}
+use Rattle.std.specs.Prelude.{Some}
 use Rattle.nodes.specs.Fragments.{Fits, Builds, copies_of, copy_of, Fewer}
 use Rattle.nodes.proofs.BuiltLaws.{Rest, rest_more, rest-built}
-
-pub fewer-plain : (c : Copies) → 0 < c.plain → Fewer c (record { plain = c.plain - 1; extra = c.extra })
-fewer-plain c h = record { count = omega arith; first = λ back X. go c.plain c.extra back X h }
-  where
-    go : (m d : ℕ) (back : Bool) (X : Frag) → 0 < m → copies_of m d back X ≡ copy_of m back X ∷ copies_of (m - 1) d back X
-    go zero d back X h = absurd (omega arith)
-    go (suc m) d back X h = let q : suc m - 1 ≡ m = omega arith in rw q
-
-pub fewer-extra : (c : Copies) → c.plain ≡ 0 → 0 < c.extra → Fewer c (record { plain = 0; extra = c.extra - 1 })
-fewer-extra c e h = record { count = omega arith; first = λ back X. rw e (go c.extra back X h) }
-  where
-    go : (d : ℕ) (back : Bool) (X : Frag) → 0 < d → copies_of 0 d back X ≡ copy_of 0 back X ∷ copies_of 0 (d - 1) back X
-    go zero back X h = absurd (omega arith)
-    go (suc d) back X h = let q : suc d - 1 ≡ d = omega arith in rw q
 
 pub no_copies : (m d : ℕ) (back : Bool) (X : Frag) → m + d ≡ 0 → all_joined (copies_of m d back X) ≡ one empty
 no_copies m d back X e = let h : m ≡ 0 = omega arith in let k : d ≡ 0 = omega arith in rw (h, k)
@@ -61,27 +49,25 @@ abbrev pub all_of : Copies → Bool → Frag → Frag
 all_of c back X = all_joined (copies_of c.plain c.extra back X)
 
 -- The copies c₀ were begun at b; those that are left, c, come from a on.
-pub record Copying (p : List ℕ) (e : ℕ) (back : Bool) (c₀ c : Copies) (b a : ℕ) (old now : Lists) : Type 0 where
+pub record Copying (p : List ℕ) (e : ℕ) (back : Bool) (c₀ c : Copies) (b a : ℕ) (old now : List Entry) : Type 0 where
   pub some : 0 < c.plain + c.extra
   pub low : a < nodes_most
-  pub room : Room now
   pub rest : (h : Part p e) → Rest p (all_of c₀ back (frag h.tree)) b (all_of c back (frag h.tree)) a old now
 
 -- the first copy is built, from a to x, and r is left
-module _ {p : List ℕ} {e : ℕ} {back : Bool} {c₀ c r : Copies} {b a : ℕ} {old l₀ l₁ : Lists} (w : Copying p e back c₀ c b a old l₀) (f : Fewer c r) where
-  pub copying-more : {l₂ : Lists} {x y : Node} → Builds p e (copy_of c.plain back) a l₀ l₁ (To x) → 0 < r.plain + r.extra → Links l₁ l₂ x.0 1 0 (To y)
+module _ {p : List ℕ} {e : ℕ} {back : Bool} {c₀ c r : Copies} {b a : ℕ} {old l₀ l₁ : List Entry} (w : Copying p e back c₀ c b a old l₀) (f : Fewer c r) where
+  pub copying-more : {l₂ : List Entry} {x y : Node} → Builds p e (copy_of c.plain back) a l₀ l₁ (Some x) → 0 < r.plain + r.extra → Links l₁ l₂ x.0 Empty 0 (Some y)
       → Copying p e back c₀ r b y.0 old l₂
   copying-more {l₂} {x} {y} g s k = record {
     some = s;
     low = k.1;
-    room = k.2.room;
     rest = λ h. let X : Frag = frag h.tree in rest_more p (all_of c₀ back X) (copy_of c.plain back X) (all_of r back X) b a x.0 y old l₀ l₁ l₂
         (rw (f.first back X, more r.plain r.extra back X (copy_of c.plain back X) s) at (w.rest h)) (g h) k;
   }
 
-  pub copying-last : {x : Node} → Builds p e (copy_of c.plain back) a l₀ l₁ (To x) → r.plain + r.extra ≡ 0 → Builds p e (all_of c₀ back) b old l₁ (To x)
+  pub copying-last : {x : Node} → Builds p e (copy_of c.plain back) a l₀ l₁ (Some x) → r.plain + r.extra ≡ 0 → Builds p e (all_of c₀ back) b old l₁ (Some x)
   copying-last {x} g s h = let X : Frag = frag h.tree in
-      rest-built p (all_of c₀ back X) (copy_of c.plain back X) b a old l₀ l₁ (To x)
+      rest-built p (all_of c₀ back X) (copy_of c.plain back X) b a old l₀ l₁ (Some x)
       (rw (f.first back X, last r.plain r.extra back X (copy_of c.plain back X) s) at (w.rest h)) (g h)
 
   -- it leaves no room for the rest
@@ -91,7 +77,7 @@ module _ {p : List ℕ} {e : ℕ} {back : Bool} {c₀ c r : Copies} {b a : ℕ} 
       omega (arith, k, g.ends, rw (f.first back X, more r.plain r.extra back X (copy_of c.plain back X) s) at (w.rest h).ends)
 
 -- there are too many nodes in the first copy
-pub copying-over : {p : List ℕ} {e : ℕ} {back : Bool} {c₀ c : Copies} {b a : ℕ} {old now : Lists} → Copying p e back c₀ c b a old now → (h : Part p e)
+pub copying-over : {p : List ℕ} {e : ℕ} {back : Bool} {c₀ c : Copies} {b a : ℕ} {old now : List Entry} → Copying p e back c₀ c b a old now → (h : Part p e)
     → nodes_most < a + size (copy_of c.plain back (frag h.tree)) → nodes_most < b + size (all_of c₀ back (frag h.tree))
 copying-over {back = back} {c = c} w h k =
     omega (arith, (w.rest h).ends, copy_within c.plain c.extra back (frag h.tree) w.some)

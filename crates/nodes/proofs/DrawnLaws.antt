@@ -14,7 +14,9 @@ use native.Mathlib.Nat.{eq-or-lt_of_le}
 use lib.Dec.{T}
 use Rattle.rules.specs.Nodes.{Kind, empty, Edge, edge, Frag, size, one, joined, forked, only, around}
 use Rattle.rules.proofs.Edges.{◌∈◌, All, all_one, all-joined, all-forked, all-around}
-use Rattle.entries.specs.Entries.{Lists, entry, entry_at, edges_of, pick}
+use Rattle.entries.specs.Entries.{entry, entry_at, edges_of, pick}
+use Rattle.entries.specs.declared.Entry.{Entry}
+use Rattle.entries.specs.declared.Kind.TheVariants.{Empty}
 use Rattle.nodes.specs.Fragments.{Between, Among, Drawn}
 
 -- ---- what holds of each node from lo on and before hi
@@ -36,7 +38,7 @@ module _ {C : ℕ → Type 0} where
   part_then : (lo mid hi : ℕ) → Through C lo mid → Through C mid hi → Through C lo hi
   part_then lo mid hi cs ds u i j = ⊎_elim (λ k. cs u i k) (λ k. ds u k j) (side u mid)
 
-module _ (p : List ℕ) (l : Lists) where
+module _ (p : List ℕ) (l : List Entry) where
   wider : {lo hi : ℕ} (lo' hi' : ℕ) → lo' ≤ lo → hi ≤ hi' → (es : List Edge) → All (Between p l lo hi) es → All (Between p l lo' hi') es
   wider lo' hi' i j es f x m = let h = f x m in (omega (arith, h.0), omega (arith, h.1), h.2)
 
@@ -44,7 +46,7 @@ module _ (p : List ℕ) (l : Lists) where
   more fs lo hi f h u i j = record { edges = λ x m. f x ((h u i j).edges x m); sound = (h u i j).sound }
 
   -- a node with empty edges to a and to b
-  module _ {u a b : ℕ} (is : entry_at l u ≡ entry 1 a b 0) where
+  module _ {u a b : ℕ} (is : entry_at l u ≡ entry Empty a b 0) where
     to-first : edge u empty a ∈ edges_of p (entry_at l u) u
     to-first = rw is (first refl)
 
@@ -71,7 +73,7 @@ module _ (p : List ℕ) (l : Lists) where
 
   -- in a row
   pub drawn-joined : (X Y : Frag) (b : ℕ) → Drawn p X b l → Drawn p Y (b + size X) l
-      → entry_at l (b + X.last) ≡ entry 1 (b + size X) (b + size X) 0 → Drawn p (joined X Y) b l
+      → entry_at l (b + X.last) ≡ entry Empty (b + size X) (b + size X) 0 → Drawn p (joined X Y) b l
   drawn-joined X Y b dx dy is =
       let y : ℕ = b + size X in
       let end : ℕ = b + (joined X Y).last in
@@ -89,7 +91,7 @@ module _ (p : List ℕ) (l : Lists) where
 
   -- `|`
   pub drawn-forked : (X Y : Frag) (b : ℕ) → let x : ℕ = 1 + b in let y : ℕ = 1 + b + size X in let e : ℕ = 1 + b + size X + size Y in
-      Drawn p X x l → Drawn p Y y l → entry_at l b ≡ entry 1 x y 0 → entry_at l (x + X.last) ≡ entry 1 e e 0 → entry_at l (y + Y.last) ≡ entry 1 e e 0
+      Drawn p X x l → Drawn p Y y l → entry_at l b ≡ entry Empty x y 0 → entry_at l (x + X.last) ≡ entry Empty e e 0 → entry_at l (y + Y.last) ≡ entry Empty e e 0
       → Drawn p (forked X Y) b l
   drawn-forked X Y b dx dy is_b is_x is_y =
       let x : ℕ = 1 + b in
@@ -115,7 +117,7 @@ module _ (p : List ℕ) (l : Lists) where
 
   -- a repeat
   pub drawn-around : (skip back : Bool) (X : Frag) (b : ℕ) → let x : ℕ = 1 + b in let e : ℕ = 1 + b + size X in
-      Drawn p X x l → entry_at l b ≡ entry 1 x (pick skip e x) 0 → entry_at l (x + X.last) ≡ entry 1 e (pick back x e) 0 → Drawn p (around skip back X) b l
+      Drawn p X x l → entry_at l b ≡ entry Empty x (pick skip e x) 0 → entry_at l (x + X.last) ≡ entry Empty e (pick back x e) 0 → Drawn p (around skip back X) b l
   drawn-around skip back X b dx is_b is_x =
       let x : ℕ = 1 + b in
       let e : ℕ = 1 + b + size X in
@@ -130,8 +132,10 @@ module _ (p : List ℕ) (l : Lists) where
             (wider b end (omega arith) (omega arith) (X.edges x) dx.edges);
         nodes =
             node-then b end (empties is_b es (first refl) (second-or skip b e x es (first refl) (λ m. later (later (on-left _ m)))))
-            (part_then (suc b) (x + X.last) end (λ u i j. more es x (x + X.last) (λ z m. later (later (on-right (only skip (edge b empty e)) (on-right (only back (edge (x + X.last) empty x)) m)))) dx.nodes u (omega arith) j)
-            (node-then (x + X.last) end (empties is_x es (later (first refl)) (second-or back (x + X.last) x e es (later (first refl)) (λ m. later (later (on-right (only skip (edge b empty e)) (on-left _ m))))))
+            (part_then (suc b) (x + X.last) end
+            (λ u i j. more es x (x + X.last) (λ z m. later (later (on-right (only skip (edge b empty e)) (on-right (only back (edge (x + X.last) empty x)) m)))) dx.nodes u (omega arith) j)
+            (node-then (x + X.last) end
+            (empties is_x es (later (first refl)) (second-or back (x + X.last) x e es (later (first refl)) (λ m. later (later (on-right (only skip (edge b empty e)) (on-left _ m))))))
             (λ u i j. absurd (omega arith))));
       }
     where

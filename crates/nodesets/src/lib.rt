@@ -34,26 +34,13 @@ pub fn take_out(set: &mut [u64], i: usize) -> Node
     Node((64 * i + k as usize) as u16)
 }
 
-pub fn copy(out: &mut [u64], set: &[u64])
-    requires { length out.old ≡ length set.now }
-    ensures { out.new ≡ set.now }
-{
-    let mut i: usize = 0;
-    while i < set.len() {
-        out[i] = set[i];
-        i += 1;
-    }
-}
-
 // The nodes that both sets have.
 pub fn meet(out: &mut [u64], a: &[u64], b: &[u64])
     requires { (length out.old ≡ length a.now) × (length b.now ≡ length a.now) }
     ensures { out.new ≡ meets a.now b.now }
 {
-    let mut i: usize = 0;
-    while i < a.len() {
-        out[i] = a[i] & b[i];
-        i += 1;
+    for (i, word) in out.iter_mut().enumerate() {
+        *word = a[i] & b[i];
     }
 }
 
@@ -63,12 +50,10 @@ pub fn meet_again(out: &mut [u64], a: &[u64], b: &[u64], from: usize, to: usize)
     ensures { (out.new ≡ meets a.now b.now) × (result ≡ tools.same out.old out.new) }
 {
     let mut apart: u64 = 0;
-    let mut i = from;
-    while i < to {
+    for i in from..to {
         let word = a[i] & b[i];
-        apart = apart | (out[i] ^ word);
+        apart |= out[i] ^ word;
         out[i] = word;
-        i += 1;
     }
     apart == 0
 }
@@ -77,14 +62,7 @@ pub fn meet_again(out: &mut [u64], a: &[u64], b: &[u64], from: usize, to: usize)
 pub fn first_used(set: &[u64]) -> usize
     ensures { (result ≤ length set.now) × ((i : ℕ) → i < result → get_or set.now i 0 ≡ 0) }
 {
-    let mut i: usize = 0;
-    while i < set.len() {
-        if set[i] != 0 {
-            return i;
-        }
-        i += 1;
-    }
-    i
+    set.iter().position(|word| *word != 0).unwrap_or(set.len())
 }
 
 // Where the words in use end, none of which is before `from`.
@@ -92,14 +70,12 @@ pub fn used_end(set: &[u64], from: usize) -> usize
     requires { from ≤ length set.now }
     ensures { (from ≤ result) × ((result ≤ length set.now) × ((i : ℕ) → result ≤ i → get_or set.now i 0 ≡ 0)) }
 {
-    let mut end = set.len();
-    while from < end {
-        if set[end - 1] != 0 {
-            return end;
+    for i in (from..set.len()).rev() {
+        if set[i] != 0 {
+            return i + 1;
         }
-        end -= 1;
     }
-    end
+    from
 }
 
 // The nodes after those of the set.
@@ -108,24 +84,20 @@ pub fn nodes_after(out: &mut [u64], set: &[u64])
     ensures { out.new ≡ doubled 0 set.now }
 {
     let mut carry: u64 = 0;
-    let mut i: usize = 0;
-    while i < set.len() {
-        let word = set[i];
+    for (i, word) in set.iter().enumerate() {
         out[i] = word % TOP_BIT * 2 + carry;
         carry = word / TOP_BIT;
-        i += 1;
     }
 }
 
+// No `==`: that stops at a word that differs, and this looks at all of them side by side.
 pub fn same(a: &[u64], b: &[u64]) -> bool
     requires { length a.now ≡ length b.now }
     ensures { result ≡ tools.same a.now b.now }
 {
     let mut apart: u64 = 0;
-    let mut i: usize = 0;
-    while i < a.len() {
-        apart = apart | (a[i] ^ b[i]);
-        i += 1;
+    for (i, word) in a.iter().enumerate() {
+        apart |= word ^ b[i];
     }
     apart == 0
 }

@@ -2,3 +2,5 @@
 pub mod Room
 -- what its steps are given and leave
 pub mod Steps
+-- the same in lists that are lent
+pub mod Lent

@@ -12,15 +12,17 @@ use lib.Seq.{get_or-set_same, get_or-set_other}
 use borrow.Author.Count.{below_more}
 use Rattle.rules.specs.Table.{Table}
 use Rattle.rules.proofs.Pigeon.{pigeon, pigeon-but}
-use Rattle.passing.specs.Run.{or_match, first_of_list, Kept, Joined}
+use Rattle.kinds.specs.declared.Row.{Row}
+use Rattle.passing.specs.declared.Entry.{Entry}
+use Rattle.passing.specs.declared.RowList.{RowList}
+use Rattle.passing.specs.Run.{or_match, entry_at, first_of_list, Kept, Joined}
 use Rattle.passing.proofs.ListLaws.{list-snoc, list-cong, list-again}
 
 -- an empty list, where the stamp is new
-pub kept-none : {count stamp : ℕ} (rows froms stamps : List ℕ) → count ≤ length rows → count ≤ length froms → count ≤ length stamps → ((q : ℕ) → q < count → get_or stamps q 0 < stamp) → Kept count rows froms stamps 0 stamp
-kept-none rows froms stamps a b c h = record {
-  rows_long = a;
-  froms-long = b;
-  stamps-long = c;
+pub kept_none : {count stamp : ℕ} (l : RowList) → l.len ≡ 0 → count ≤ length l.entries → count ≤ length l.stamps → ((q : ℕ) → q < count → get_or l.stamps q 0 < stamp) → Kept count l stamp
+kept_none l z a b h = record {
+  entries_long = a;
+  stamps_long = b;
   below = λ i l. absurd (omega arith);
   stamped = λ i l. absurd (omega arith);
   listed = λ q l e. absurd (omega (arith, h q l));
@@ -28,8 +30,8 @@ kept-none rows froms stamps a b c h = record {
   old = λ q l. omega (arith, h q l);
 }
 
-module _ {count len stamp : ℕ} {rows froms stamps : List ℕ} (k : Kept count rows froms stamps len stamp) where
-  distinct : (i j : ℕ) → i < len → j < len → get_or rows i 0 ≡ get_or rows j 0 → i ≡ j
+module _ {count stamp : ℕ} {l : RowList} (k : Kept count l stamp) where
+  distinct : (i j : ℕ) → i < l.len → j < l.len → (entry_at l.entries i).row.0 ≡ (entry_at l.entries j).row.0 → i ≡ j
   distinct i j a b e = go (dec_lt i j) (dec_lt j i)
     where
       go : Dec (i < j) → Dec (j < i) → i ≡ j
@@ -37,90 +39,89 @@ module _ {count len stamp : ℕ} {rows froms stamps : List ℕ} (k : Kept count 
       go (no l) (yes m) = absurd (k.apart j i m a (sym e))
       go (no l) (no m) = omega arith
 
-  pub kept-few : len ≤ count
-  kept-few = pigeon len count (λ i. get_or rows i 0) k.below distinct
+  pub kept_few : l.len ≤ count
+  kept_few = pigeon l.len count (λ i. (entry_at l.entries i).row.0) k.below distinct
 
   module _ {q : ℕ} (inside : q < count) where
-    pub joined-old : (from : ℕ) → get_or stamps q 0 ≡ stamp → Joined count rows froms rows froms stamps len q from stamp len
-    joined-old from e = let x = k.listed q inside e in record {
+    pub joined_old : (from : ℕ) → get_or l.stamps q 0 ≡ stamp → Joined count l l q from stamp
+    joined_old from e = let x = k.listed q inside e in record {
       kept = k;
       some = omega (arith, x.1);
       few = omega arith;
-      same = λ w t p c. list-again w t p rows froms len x.0 from c x.1 ∙ ap (λ (r : ℕ). first_of_list w t p rows froms 0 len (or_match w t p r from c)) x.2;
-      rest = λ i l. (refl, refl);
+      best = refl;
+      same = λ w t p c. list-again w t p l.entries l.len x.0 from c x.1 ∙ ap (λ (r : ℕ). first_of_list w t p l.entries 0 l.len (or_match w t p r from c)) x.2;
+      rest = λ i l. refl;
     }
 
-    module _ (new : get_or stamps q 0 ≡ stamp → ⊥) where
-      other : (i : ℕ) → i < len → get_or rows i 0 ≡ q → ⊥
-      other i l e = new (ap (λ (r : ℕ). get_or stamps r 0) (sym e) ∙ k.stamped i l)
+    module _ (new : get_or l.stamps q 0 ≡ stamp → ⊥) where
+      other : (i : ℕ) → i < l.len → (entry_at l.entries i).row.0 ≡ q → ⊥
+      other i m e = new (ap (λ (r : ℕ). get_or l.stamps r 0) (sym e) ∙ k.stamped i m)
 
-      pub kept-room : len < count
-      kept-room = omega (arith, pigeon-but len (count - 1) (λ i. get_or rows i 0) q (omega arith) other (λ i l. omega (arith, k.below i l)) distinct)
+      pub kept_room : l.len < count
+      kept_room = omega (arith, pigeon-but l.len (count - 1) (λ i. (entry_at l.entries i).row.0) q (omega arith) other (λ i l. omega (arith, k.below i l)) distinct)
 
-      module _ (from : ℕ) where
-        abbrev rows' : List ℕ
-        rows' = set rows len q
+module _ {count stamp : ℕ} {l : RowList} (k : Kept count l stamp) {row : Row} (inside : row.0 < count) (new : get_or l.stamps row.0 0 ≡ stamp → ⊥) (from : ℕ) where
+  abbrev entry : Entry
+  entry = record { row = row; from = from }
 
-        abbrev froms' : List ℕ
-        froms' = set froms len from
+  abbrev joined : RowList
+  joined = record { entries = set l.entries l.len entry; len = l.len + 1; stamps = set l.stamps row.0 stamp; best = l.best }
 
-        abbrev stamps' : List ℕ
-        stamps' = set stamps q stamp
+  entry_old : (i : ℕ) → (i ≡ l.len → ⊥) → entry_at joined.entries i ≡ entry_at l.entries i
+  entry_old i n = get_or-set_other l.entries l.len i entry _ n
 
-        row_old : (i : ℕ) → i < len → get_or rows' i 0 ≡ get_or rows i 0
-        row_old i l = get_or-set_other rows len i q 0 (λ e. omega arith)
+  entry_new : entry_at joined.entries l.len ≡ entry
+  entry_new = get_or-set_same l.entries l.len entry _ (omega (arith, kept_room k inside new))
 
-        row_new : get_or rows' len 0 ≡ q
-        row_new = get_or-set_same rows len q 0 (omega (arith, kept-room))
+  row_old : (i : ℕ) → i < l.len → (entry_at joined.entries i).row.0 ≡ (entry_at l.entries i).row.0
+  row_old i a = ap (λ (e : Entry). e.row.0) (entry_old i (λ e. omega arith))
 
-        from-new : get_or froms' len 0 ≡ from
-        from-new = get_or-set_same froms len from 0 (omega (arith, kept-room))
+  row_new : (entry_at joined.entries l.len).row.0 ≡ row.0
+  row_new = ap (λ (e : Entry). e.row.0) entry_new
 
-        stamp-new : get_or stamps' q 0 ≡ stamp
-        stamp-new = get_or-set_same stamps q stamp 0 (omega arith)
+  stamp_new : get_or joined.stamps row.0 0 ≡ stamp
+  stamp_new = get_or-set_same l.stamps row.0 stamp 0 (omega arith)
 
-        listed : (r : ℕ) → r < count → get_or stamps' r 0 ≡ stamp → Dec (r ≡ q) → (i : ℕ) × (i < len + 1) × (get_or rows' i 0 ≡ r)
-        listed r l e (yes z) = (len, omega arith, row_new ∙ sym z)
-        listed r l e (no z) =
-            let x = k.listed r l (sym (get_or-set_other stamps q r stamp 0 z) ∙ e) in
-            (x.0, omega (arith, x.1), row_old x.0 x.1 ∙ x.2)
+  listed : (r : ℕ) → r < count → get_or joined.stamps r 0 ≡ stamp → Dec (r ≡ row.0) → (i : ℕ) × (i < l.len + 1) × ((entry_at joined.entries i).row.0 ≡ r)
+  listed r a e (yes z) = (l.len, omega arith, row_new ∙ sym z)
+  listed r a e (no z) =
+      let x = k.listed r a (sym (get_or-set_other l.stamps row.0 r stamp 0 z) ∙ e) in
+      (x.0, omega (arith, x.1), row_old x.0 x.1 ∙ x.2)
 
-        old : (r : ℕ) → r < count → Dec (r ≡ q) → get_or stamps' r 0 ≤ stamp
-        old r l (yes z) = omega (arith, ap (λ (r : ℕ). get_or stamps' r 0) z, stamp-new)
-        old r l (no z) = omega (arith, get_or-set_other stamps q r stamp 0 z, k.old r l)
+  old : (r : ℕ) → r < count → Dec (r ≡ row.0) → get_or joined.stamps r 0 ≤ stamp
+  old r a (yes z) = omega (arith, ap (λ (r : ℕ). get_or joined.stamps r 0) z, stamp_new)
+  old r a (no z) = omega (arith, get_or-set_other l.stamps row.0 r stamp 0 z, k.old r a)
 
-        kept_more : Kept count rows' froms' stamps' (len + 1) stamp
-        kept_more = record {
-          rows_long = omega (arith, length-set rows len q);
-          froms-long = omega (arith, length-set froms len from);
-          stamps-long = omega (arith, length-set stamps q stamp);
-          below = below_more (λ (i : ℕ). get_or rows' i 0 < count) len (λ i l. omega (arith, row_old i l, k.below i l)) (omega (arith, row_new));
-          stamped = below_more (λ (i : ℕ). get_or stamps' (get_or rows' i 0) 0 ≡ stamp) len
-              (λ i l. ap (λ (r : ℕ). get_or stamps' r 0) (row_old i l) ∙ get_or-set_other stamps q (get_or rows i 0) stamp 0 (other i l) ∙ k.stamped i l)
-              (ap (λ (r : ℕ). get_or stamps' r 0) row_new ∙ stamp-new);
-          listed = λ r l e. listed r l e (ℕ_discrete r q);
-          apart = λ i j a b. below_more (λ (j : ℕ). (i : ℕ) → i < j → get_or rows' i 0 ≡ get_or rows' j 0 → ⊥) len
-              (λ j l i a e. k.apart i j a l (sym (row_old i (omega arith)) ∙ e ∙ row_old j l))
-              (λ i a e. other i a (sym (row_old i a) ∙ e ∙ row_new)) j b i a;
-          old = λ r l. old r l (ℕ_discrete r q);
-        }
+  kept_more : Kept count joined stamp
+  kept_more = record {
+    entries_long = omega (arith, length-set l.entries l.len entry);
+    stamps_long = omega (arith, length-set l.stamps row.0 stamp);
+    below = below_more (λ (i : ℕ). (entry_at joined.entries i).row.0 < count) l.len (λ i a. omega (arith, row_old i a, k.below i a)) (omega (arith, row_new));
+    stamped = below_more (λ (i : ℕ). get_or joined.stamps (entry_at joined.entries i).row.0 0 ≡ stamp) l.len
+        (λ i a. ap (λ (r : ℕ). get_or joined.stamps r 0) (row_old i a) ∙ get_or-set_other l.stamps row.0 (entry_at l.entries i).row.0 stamp 0 (other k inside new i a) ∙ k.stamped i a)
+        (ap (λ (r : ℕ). get_or joined.stamps r 0) row_new ∙ stamp_new);
+    listed = λ r a e. listed r a e (ℕ_discrete r row.0);
+    apart = λ i j a b. below_more (λ (j : ℕ). (i : ℕ) → i < j → (entry_at joined.entries i).row.0 ≡ (entry_at joined.entries j).row.0 → ⊥) l.len
+        (λ j b i a e. k.apart i j a b (sym (row_old i (omega arith)) ∙ e ∙ row_old j b))
+        (λ i a e. other k inside new i a (sym (row_old i a) ∙ e ∙ row_new)) j b i a;
+    old = λ r a. old r a (ℕ_discrete r row.0);
+  }
 
-        -- the list with one entry more
-        snoc : (w : Table) (t : List ℕ) (p : ℕ) (c : Option (ℕ × ℕ)) → first_of_list w t p rows' froms' 0 (len + 1) c ≡ first_of_list w t p rows froms 0 len (or_match w t p q from c)
-        snoc w t p c =
-            ap (λ (n : ℕ). first_of_list w t p rows' froms' 0 n c) (add-one len)
-            ∙ list-snoc w t p rows' froms' len 0 c
-            ∙ ap (λ (n : ℕ). first_of_list w t p rows' froms' 0 len (or_match w t p (get_or rows' n 0) (get_or froms' n 0) c)) (zero-add len)
-            ∙ ap (λ (r : ℕ). first_of_list w t p rows' froms' 0 len (or_match w t p r (get_or froms' len 0) c)) row_new
-            ∙ ap (λ (s : ℕ). first_of_list w t p rows' froms' 0 len (or_match w t p q s c)) from-new
-            ∙ list-cong w t p rows' froms' rows froms len 0 (or_match w t p q from c)
-            (λ j a b. (row_old j (omega arith), get_or-set_other froms len j from 0 (λ e. omega arith)))
+  -- the list with one entry more
+  snoc : (w : Table) (t : List ℕ) (p : ℕ) (c : Option (ℕ × ℕ)) → first_of_list w t p joined.entries 0 (l.len + 1) c ≡ first_of_list w t p l.entries 0 l.len (or_match w t p row.0 from c)
+  snoc w t p c =
+      ap (λ (n : ℕ). first_of_list w t p joined.entries 0 n c) (add-one l.len)
+      ∙ list-snoc w t p joined.entries l.len 0 c
+      ∙ ap (λ (n : ℕ). first_of_list w t p joined.entries 0 l.len (or_match w t p (entry_at joined.entries n).row.0 (entry_at joined.entries n).from c)) (zero-add l.len)
+      ∙ ap (λ (e : Entry). first_of_list w t p joined.entries 0 l.len (or_match w t p e.row.0 e.from c)) entry_new
+      ∙ list-cong w t p joined.entries l.entries l.len 0 (or_match w t p row.0 from c) (λ j a b. entry_old j (λ e. omega arith))
 
-        pub joined-new : Joined count rows froms rows' froms' stamps' len q from stamp (len + 1)
-        joined-new = record {
-          kept = kept_more;
-          some = omega arith;
-          few = omega arith;
-          same = snoc;
-          rest = λ i l. (get_or-set_other rows len i q 0 (λ e. omega arith), get_or-set_other froms len i from 0 (λ e. omega arith));
-        }
+  pub joined_new : Joined count l joined row.0 from stamp
+  joined_new = record {
+    kept = kept_more;
+    some = omega arith;
+    few = omega arith;
+    best = refl;
+    same = snoc;
+    rest = λ i a. entry_old i (λ e. omega arith);
+  }

@@ -11,10 +11,10 @@ use lib.ListN.{length, get_or, drop}
 use lib.Seq.{drop-length}
 use Rattle.rules.specs.Tools.{guard, or_else, if_some}
 use Rattle.rules.specs.Table.{Table, cell, fits}
-use Rattle.passing.specs.declared.Found.{Found}
-use Rattle.passing.specs.declared.Found.TheVariants as found
+use Rattle.std.specs.Prelude as std
+use Rattle.passing.specs.declared.Entry.{Entry}
 use Rattle.ahead.specs.Ahead.{mark, ahead, Stuck}
-use Rattle.passing.specs.Run.{found_of, or_match, first_of_list, otherwise}
+use Rattle.passing.specs.Run.{found_of, or_match, entry_at, first_of_list, otherwise}
 use Rattle.ahead.specs.Ahead.{last_end}
 use Rattle.ahead.proofs.AheadLaws.{ahead-stuck, drop-bytes}
 use Rattle.ahead.proofs.PlaceLaws.{is_some, some-ahead, end-next}
@@ -61,49 +61,46 @@ module _ (w : Table) (t : List ℕ) where
       go true e = ap (λ (b : Bool). if_some (guard b (length t)) (λ e. some (s, e)) c) e
       go false e = ap (λ (b : Bool). if_some (guard b (length t)) (λ e. some (s, e)) c) e
 
-  pub otherwise-end : (best : Found) → otherwise w t best (length t + 1) ≡ found_of best
-  otherwise-end (found.Match s e) = refl
-  otherwise-end found.Nothing = first-none w t
+  pub otherwise-end : (best : std.Option (ℕ × ℕ)) → otherwise w t best (length t + 1) ≡ found_of best
+  otherwise-end (std.Some x) = refl
+  otherwise-end std.None = first-none w t
 
   -- ---- the entries
 
-  module _ (p : ℕ) (rows froms : List ℕ) where
-    pub list-snoc : (k i : ℕ) (c : Option (ℕ × ℕ)) → first_of_list w t p rows froms i (suc k) c ≡ first_of_list w t p rows froms i k (or_match w t p (get_or rows (i + k) 0) (get_or froms (i + k) 0) c)
+  module _ (p : ℕ) (l : List Entry) where
+    pub list-snoc : (k i : ℕ) (c : Option (ℕ × ℕ)) → first_of_list w t p l i (suc k) c ≡ first_of_list w t p l i k (or_match w t p (entry_at l (i + k)).row.0 (entry_at l (i + k)).from c)
     unfolding first_of_list
-    list-snoc zero i c = ap (λ (n : ℕ). or_match w t p (get_or rows n 0) (get_or froms n 0) c) (sym (add-zero i))
+    list-snoc zero i c = ap (λ (n : ℕ). or_match w t p (entry_at l n).row.0 (entry_at l n).from c) (sym (add-zero i))
     list-snoc (suc k) i c =
         let e : suc i + k ≡ i + suc k = omega arith in
-        ap (or_match w t p (get_or rows i 0) (get_or froms i 0))
-        (list-snoc k (suc i) c ∙ ap (λ (n : ℕ). first_of_list w t p rows froms (suc i) k (or_match w t p (get_or rows n 0) (get_or froms n 0) c)) e)
+        ap (or_match w t p (entry_at l i).row.0 (entry_at l i).from)
+        (list-snoc k (suc i) c ∙ ap (λ (n : ℕ). first_of_list w t p l (suc i) k (or_match w t p (entry_at l n).row.0 (entry_at l n).from c)) e)
 
-    pub list-cong : (rows' froms' : List ℕ) (k i : ℕ) (c : Option (ℕ × ℕ)) → ((j : ℕ) → i ≤ j → j < i + k → (get_or rows j 0 ≡ get_or rows' j 0) × (get_or froms j 0 ≡ get_or froms' j 0))
-        → first_of_list w t p rows froms i k c ≡ first_of_list w t p rows' froms' i k c
+    pub list-cong : (m : List Entry) (k i : ℕ) (c : Option (ℕ × ℕ)) → ((j : ℕ) → i ≤ j → j < i + k → entry_at l j ≡ entry_at m j)
+        → first_of_list w t p l i k c ≡ first_of_list w t p m i k c
     unfolding first_of_list
-    list-cong rows' froms' zero i c h = refl
-    list-cong rows' froms' (suc k) i c h =
-        let e = h i (omega arith) (omega arith) in
-        ap (λ (q : ℕ). or_match w t p q (get_or froms i 0) (first_of_list w t p rows froms (suc i) k c)) e.0
-        ∙ ap (λ (s : ℕ). or_match w t p (get_or rows' i 0) s (first_of_list w t p rows froms (suc i) k c)) e.1
-        ∙ ap (or_match w t p (get_or rows' i 0) (get_or froms' i 0)) (list-cong rows' froms' k (suc i) c (λ j a b. h j (omega arith) (omega arith)))
+    list-cong m zero i c h = refl
+    list-cong m (suc k) i c h =
+        ap (λ (e : Entry). or_match w t p e.row.0 e.from (first_of_list w t p l (suc i) k c)) (h i (omega arith) (omega arith))
+        ∙ ap (or_match w t p (entry_at m i).row.0 (entry_at m i).from) (list-cong m k (suc i) c (λ j a b. h j (omega arith) (omega arith)))
 
     -- where an entry has a match, nothing after the list counts
-    list-known : (k i j : ℕ) (c d : Option (ℕ × ℕ)) {e : ℕ} → i ≤ j → j < i + k → last_end w (get_or rows j 0) p (drop p t) ≡ some e → first_of_list w t p rows froms i k c ≡ first_of_list w t p rows froms i k d
+    list-known : (k i j : ℕ) (c d : Option (ℕ × ℕ)) {e : ℕ} → i ≤ j → j < i + k → last_end w (entry_at l j).row.0 p (drop p t) ≡ some e → first_of_list w t p l i k c ≡ first_of_list w t p l i k d
     unfolding first_of_list
     list-known zero i j c d a b f = absurd (omega arith)
     list-known (suc k) i j c d {e} a b f = go (ℕ_discrete i j) (λ l. list-known k (suc i) j c d l (omega arith) f)
       where
-        go : Dec (i ≡ j) → (suc i ≤ j → first_of_list w t p rows froms (suc i) k c ≡ first_of_list w t p rows froms (suc i) k d)
-            → first_of_list w t p rows froms i (suc k) c ≡ first_of_list w t p rows froms i (suc k) d
+        go : Dec (i ≡ j) → (suc i ≤ j → first_of_list w t p l (suc i) k c ≡ first_of_list w t p l (suc i) k d) → first_of_list w t p l i (suc k) c ≡ first_of_list w t p l i (suc k) d
         go (yes s) g =
-            let x : last_end w (get_or rows i 0) p (drop p t) ≡ some e = ap (λ (n : ℕ). last_end w (get_or rows n 0) p (drop p t)) s ∙ f in
-            ap (λ (o : Option ℕ). if_some o (λ e. some (get_or froms i 0, e)) (first_of_list w t p rows froms (suc i) k c)) x
-            ∙ sym (ap (λ (o : Option ℕ). if_some o (λ e. some (get_or froms i 0, e)) (first_of_list w t p rows froms (suc i) k d)) x)
-        go (no s) g = ap (or_match w t p (get_or rows i 0) (get_or froms i 0)) (g (omega arith))
+            let x : last_end w (entry_at l i).row.0 p (drop p t) ≡ some e = ap (λ (n : ℕ). last_end w (entry_at l n).row.0 p (drop p t)) s ∙ f in
+            ap (λ (o : Option ℕ). if_some o (λ e. some ((entry_at l i).from, e)) (first_of_list w t p l (suc i) k c)) x
+            ∙ sym (ap (λ (o : Option ℕ). if_some o (λ e. some ((entry_at l i).from, e)) (first_of_list w t p l (suc i) k d)) x)
+        go (no s) g = ap (or_match w t p (entry_at l i).row.0 (entry_at l i).from) (g (omega arith))
 
     -- a row that is in the list adds nothing to it
-    pub list-again : (k j : ℕ) (s : ℕ) (c : Option (ℕ × ℕ)) → j < k → first_of_list w t p rows froms 0 k c ≡ first_of_list w t p rows froms 0 k (or_match w t p (get_or rows j 0) s c)
-    list-again k j s c h = go (last_end w (get_or rows j 0) p (drop p t)) refl
+    pub list-again : (k j : ℕ) (s : ℕ) (c : Option (ℕ × ℕ)) → j < k → first_of_list w t p l 0 k c ≡ first_of_list w t p l 0 k (or_match w t p (entry_at l j).row.0 s c)
+    list-again k j s c h = go (last_end w (entry_at l j).row.0 p (drop p t)) refl
       where
-        go : (x : Option ℕ) → last_end w (get_or rows j 0) p (drop p t) ≡ x → first_of_list w t p rows froms 0 k c ≡ first_of_list w t p rows froms 0 k (if_some x (λ e. some (s, e)) c)
+        go : (x : Option ℕ) → last_end w (entry_at l j).row.0 p (drop p t) ≡ x → first_of_list w t p l 0 k c ≡ first_of_list w t p l 0 k (if_some x (λ e. some (s, e)) c)
         go none e = refl
         go (some x) e = list-known k 0 j c (some (s, x)) (omega arith) (omega arith) e

@@ -2,236 +2,125 @@
 #![tactic(auto)]
 
 ghost use Rattle.std.specs.Prelude.{◌≡◌, ◌+◌, ◌≤◌, ◌<◌, length};
-ghost use Rattle.rules.specs.Sizes.{rows_most};
-ghost use Rattle.ahead.specs.Ahead.{lent, Ready};
-ghost use Rattle.passing.specs.Run.{found_of, first_from, outcome, Kept, Joined, Opened, Carried, Advanced};
+ghost use Rattle.table.specs.Lent.{lent_table};
+ghost use Rattle.passing.specs.Run.{found_of, first_from, cut, outcome, Kept, Joined, Opened, Carried, Advanced};
 
-use ahead::{Rows, begin};
+use ahead::{Search, begin};
 use kinds::{ROWS, Row};
+use table::{ends_here, step};
 
-// A match, or none.
+// A row, and the least start that has led to it.
 #[derive(Clone, Copy)]
-pub enum Found {
-    Match(u32, u32),
-    Nothing,
+struct Entry {
+    row: Row,
+    from: u32,
 }
 
-// How long the list is, and the match found so far.
+// The rows that starts have led to are the first `len` entries, in the order of the starts. A row has the last stamp if it is one of
+// them. `best` is the match found so far.
 #[derive(Drop)]
-pub struct Step {
-    pub len: usize,
-    pub best: Found,
+struct RowList {
+    entries: [Entry; ROWS],
+    len: usize,
+    stamps: [u32; ROWS],
+    best: Option<(u32, u32)>,
 }
 
-// A row with its start joins the list, unless an earlier start has led to the row: then it has the stamp.
-fn join(
-    known: Rows,
-    rows: &mut [u16; ROWS],
-    froms: &mut [u32; ROWS],
-    stamps: &mut [u32; ROWS],
-    len: usize,
-    q: Row,
-    from: u32,
-    stamp: u32,
-) -> usize
-    requires kept { Kept known.count rows.old froms.old stamps.old len stamp }
-    requires count_le_rows_most { (known.count ≤ rows_most) × (q.0 < known.count) }
-    ensures { Joined known.count rows.old froms.old rows.new froms.new stamps.new len q.0 from stamp result }
-{
-    let i = q.0 as usize;
-    if stamps[i] == stamp {
-        return len;
+impl RowList {
+    // A row with its start joins the first `len` entries, unless an earlier start has led to the row: then it has the stamp. The new
+    // length is handed back, and not put into the list, so that it stays in a register.
+    fn join(&mut self, search: &Search<'_>, len: usize, row: Row, from: u32, stamp: u32) -> usize
+        requires kept { Kept search.now.table.rows (cut self.old len) stamp }
+        requires row { row.0 < search.now.table.rows }
+        ensures { Joined search.now.table.rows (cut self.old len) (cut self.new result) row.0 from stamp }
+    {
+        let i = row.0 as usize;
+        if self.stamps[i] == stamp {
+            return len;
+        }
+        self.stamps[i] = stamp;
+        self.entries[len] = Entry { row, from };
+        len + 1
     }
-    stamps[i] = stamp;
-    rows[len] = q.0;
-    froms[len] = from;
-    len + 1
-}
 
-// The start p joins the list, unless a match is known.
-fn open_at(
-    known: Rows,
-    cells: &[u16],
-    marks: &[u8],
-    text: &[u8],
-    rows: &mut [u16; ROWS],
-    froms: &mut [u32; ROWS],
-    stamps: &mut [u32; ROWS],
-    len: usize,
-    best: Found,
-    p: usize,
-) -> usize
-    requires ready { Ready (lent known marks.now cells.now) text.now known.dead.0 }
-    requires kept { Kept known.count rows.old froms.old stamps.old len (p + 1) × (p ≤ length text.now) }
-    ensures { Opened (lent known marks.now cells.now) text.now rows.old froms.old rows.new froms.new stamps.new len best p result }
-{
-    match best {
-        Found::Match(_, _) => len,
-        Found::Nothing => {
-            let q = begin(known, p);
-            join(known, rows, froms, stamps, len, q, p as u32, p as u32 + 1)
+    // The start p joins the list, unless a match is known.
+    fn open_at(&mut self, search: &Search<'_>, p: usize)
+        requires { Kept search.now.table.rows self.old (p + 1) × (p ≤ length search.now.text.now) }
+        ensures { Opened (lent_table search.now.table) search.now.text.now self.old self.new p }
+    {
+        if self.best.is_none() {
+            let row = begin(&search.table, p);
+            self.len = self.join(search, self.len, row, p as u32, p as u32 + 1);
         }
     }
-}
 
-// The row that q goes to on the byte at p joins the list for the next place, unless no match comes after it.
-fn carry(
-    known: Rows,
-    cells: &[u16],
-    marks: &[u8],
-    text: &[u8],
-    rows: &mut [u16; ROWS],
-    froms: &mut [u32; ROWS],
-    stamps: &mut [u32; ROWS],
-    kept: usize,
-    q: Row,
-    from: u32,
-    p: usize,
-) -> usize
-    requires ready { Ready (lent known marks.now cells.now) text.now known.dead.0 }
-    requires kept { Kept known.count rows.old froms.old stamps.old kept (p + 2) }
-    requires q_lt_count { (q.0 < known.count) × (p < length text.now) }
-    ensures { Carried (lent known marks.now cells.now) text.now rows.old froms.old rows.new froms.new stamps.new kept q.0 from p result }
-{
-    let next = table::step(cells, q, text[p]);
-    let dead = known.dead;
-    if next.0 == dead.0 {
-        return kept;
-    }
-    join(known, rows, froms, stamps, kept, next, from, p as u32 + 2)
-}
-
-// Every row of the list goes on by a byte. A match that ends here is kept, and the starts after its own are let go.
-fn advance(
-    known: Rows,
-    cells: &[u16],
-    marks: &[u8],
-    text: &[u8],
-    rows: &mut [u16; ROWS],
-    froms: &mut [u32; ROWS],
-    stamps: &mut [u32; ROWS],
-    len: usize,
-    best: Found,
-    p: usize,
-) -> Step
-    requires ready { Ready (lent known marks.now cells.now) text.now known.dead.0 }
-    requires kept { Kept known.count rows.old froms.old stamps.old len (p + 1) × (p < length text.now) }
-    ensures { Advanced (lent known marks.now cells.now) text.now rows.old froms.old rows.new froms.new stamps.new len best p result }
-{
-    let mut kept: usize = 0;
-    let mut i: usize = 0;
-    while i < len {
-        let q = rows[i];
-        let from = froms[i];
-        kept = carry(
-            known,
-            cells,
-            marks,
-            text,
-            rows,
-            froms,
-            stamps,
-            kept,
-            Row(q),
-            from,
-            p,
-        );
-        if table::ends_here(marks[q as usize], false) {
-            return Step {
-                len: kept,
-                best: Found::Match(from, p as u32),
-            };
+    // The row that an entry's row goes to on the byte at p joins the first `len` entries, unless no match comes after it.
+    fn carry(&mut self, search: &Search<'_>, len: usize, entry: Entry, p: usize) -> usize
+        requires kept { Kept search.now.table.rows (cut self.old len) (p + 2) }
+        requires entry { (entry.row.0 < search.now.table.rows) × (p < length search.now.text.now) }
+        ensures { Carried (lent_table search.now.table) search.now.text.now (cut self.old len) (cut self.new result) entry p }
+    {
+        let next = step(search.table.cells, entry.row, search.text[p]);
+        if next == search.dead {
+            return len;
         }
-        i += 1;
+        self.join(search, len, next, entry.from, p as u32 + 2)
     }
-    Step {
-        len: kept,
-        best: best,
-    }
-}
 
-// The first row of the list that makes a match at the text's end.
-fn close_at_end(
-    known: Rows,
-    cells: &[u16],
-    marks: &[u8],
-    text: &[u8],
-    rows: &[u16; ROWS],
-    froms: &[u32; ROWS],
-    stamps: &[u32; ROWS],
-    len: usize,
-    best: Found,
-) -> Found
-    requires ready { Ready (lent known marks.now cells.now) text.now known.dead.0 }
-    requires kept { Kept known.count rows.now froms.now stamps.now len (length text.now + 1) }
-    ensures { found_of result ≡ outcome (lent known marks.now cells.now) text.now rows.now froms.now len best (length text.now + 1) (length text.now) }
-{
-    let mut i: usize = 0;
-    while i < len {
-        let q = rows[i] as usize;
-        if table::ends_here(marks[q], true) {
-            return Found::Match(froms[i], text.len() as u32);
+    // Every row of the list goes on by a byte. A match that ends here is kept, and the starts after its own are let go.
+    fn advance(&mut self, search: &Search<'_>, p: usize)
+        requires { Kept search.now.table.rows self.old (p + 1) × (p < length search.now.text.now) }
+        ensures { Advanced (lent_table search.now.table) search.now.text.now self.old self.new p }
+    {
+        let mut kept = 0;
+        for i in 0..self.len {
+            let entry = self.entries[i];
+            kept = self.carry(search, kept, entry, p);
+            if ends_here(search.table.marks[entry.row.0 as usize], false) {
+                self.len = kept;
+                self.best = Some((entry.from, p as u32));
+                return;
+            }
         }
-        i += 1;
+        self.len = kept;
     }
-    best
+
+    // The first row of the list that makes a match at the text's end.
+    fn close_at_end(&self, search: &Search<'_>) -> Option<(u32, u32)>
+        requires { Kept search.now.table.rows self.now (length search.now.text.now + 1) }
+        ensures { found_of result ≡ outcome (lent_table search.now.table) search.now.text.now self.now (length search.now.text.now + 1) (length search.now.text.now) }
+    {
+        for entry in &self.entries[..self.len] {
+            if ends_here(search.table.marks[entry.row.0 as usize], true) {
+                return Some((entry.from, search.text.len() as u32));
+            }
+        }
+        self.best
+    }
 }
 
 // First, of the starts from `from` on: to the text's end, or until a match is known and no earlier start is left.
-pub fn read_on(known: Rows, cells: &[u16], marks: &[u8], text: &[u8], from: usize) -> Found
-    requires ready { Ready (lent known marks.now cells.now) text.now known.dead.0 }
-    requires from_in_bounds { from ≤ length text.now }
-    ensures { found_of result ≡ first_from (lent known marks.now cells.now) text.now from }
+pub fn read_on(search: &Search<'_>, from: usize) -> Option<(u32, u32)>
+    requires { from ≤ length search.now.text.now }
+    ensures { found_of result ≡ first_from (lent_table search.now.table) search.now.text.now from }
 {
-    let mut rows = [0u16; ROWS];
-    let mut froms = [0u32; ROWS];
-    let mut stamps = [0u32; ROWS];
-    let mut len: usize = 0;
-    let mut best = Found::Nothing;
-    let mut p = from;
-    while p < text.len() {
-        len = open_at(
-            known,
-            cells,
-            marks,
-            text,
-            &mut rows,
-            &mut froms,
-            &mut stamps,
-            len,
-            best,
-            p,
-        );
-        if len == 0 {
-            return best;
+    let mut list = RowList {
+        entries: [Entry {
+            row: Row(0),
+            from: 0,
+        }; ROWS],
+        len: 0,
+        stamps: [0; ROWS],
+        best: None,
+    };
+    let n = search.text.len();
+    for p in from..n {
+        list.open_at(search, p);
+        if list.len == 0 {
+            return list.best;
         }
-        let step = advance(
-            known,
-            cells,
-            marks,
-            text,
-            &mut rows,
-            &mut froms,
-            &mut stamps,
-            len,
-            best,
-            p,
-        );
-        len = step.len;
-        best = step.best;
-        p += 1;
+        list.advance(search, p);
     }
-    len = open_at(
-        known,
-        cells,
-        marks,
-        text,
-        &mut rows,
-        &mut froms,
-        &mut stamps,
-        len,
-        best,
-        p,
-    );
-    close_at_end(known, cells, marks, text, &rows, &froms, &stamps, len, best)
+    list.open_at(search, n);
+    list.close_at_end(search)
 }

@@ -142,7 +142,8 @@ module _ (mid new : List ℕ) (s k : ℕ) where
     names = refl;
   }
 
-  pub wrote-pair : (o : ℕ → Op) (X Y : Tree) (old : List ℕ) (n : ℕ) → Program old X s n → take n mid ≡ take n old → Program mid Y n k → Puts mid new k (o (k - n)) → Pair new o (Program new X) (Program new Y) s (k + 1)
+  pub wrote-pair : (o : ℕ → Op) (X Y : Tree) (old : List ℕ) (n : ℕ) → Program old X s n → take n mid ≡ take n old → Program mid Y n k → Puts mid new k (o (k - n))
+      → Pair new o (Program new X) (Program new Y) s (k + 1)
   wrote-pair o X Y old n x kept y h =
       let l = program-longer mid Y n k y in
       record {

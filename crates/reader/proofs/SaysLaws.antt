@@ -49,18 +49,11 @@ turned {p} {n} {i} h f = record { left = drop i p; fault = f; place = simp lengt
 signed : {p s : List ℕ} {d : ℕ} {b : Before} → Reach p s b d → NotAtom b → (t : Token) → token s ≡ t → is_repeat t ≡ true → Fault p 2 s
 signed {s = s} r h (repeats k u) e q = two r h (standing s e)
 signed {s = s} r h no_count e q = two_brace r h (standing s e)
-signed r h (single X u) e q = absurd (let z : ◌≡◌ {A = ℕ} 0 1 = cc in omega arith)
-signed r h (opens u) e q = absurd (let z : ◌≡◌ {A = ℕ} 0 1 = cc in omega arith)
-signed r h (closes u) e q = absurd (let z : ◌≡◌ {A = ℕ} 0 1 = cc in omega arith)
-signed r h (parts u) e q = absurd (let z : ◌≡◌ {A = ℕ} 0 1 = cc in omega arith)
-signed r h ends e q = absurd (let z : ◌≡◌ {A = ℕ} 0 1 = cc in omega arith)
-signed r h no_class e q = absurd (let z : ◌≡◌ {A = ℕ} 0 1 = cc in omega arith)
-signed r h no_escape e q = absurd (let z : ◌≡◌ {A = ℕ} 0 1 = cc in omega arith)
-signed r h stray e q = absurd (let z : ◌≡◌ {A = ℕ} 0 1 = cc in omega arith)
+signed r h _ e q = cc
 
 signed-ready : {p s : List ℕ} {d : ℕ} {b : Before} → Reach p s b d → NotAtom b ⊎ (is_repeat (token s) ≡ false) → is_repeat (token s) ≡ true → Fault p 2 s
 signed-ready {s = s} r (inl h) q = signed r h (token s) refl q
-signed-ready r (inr h) q = absurd (let z : ◌≡◌ {A = ℕ} 0 1 = cc in omega arith)
+signed-ready r (inr h) q = cc
 
 past_of : {p : List ℕ} {i d : ℕ} → Ready p i d → Past p i d
 past_of r = record { before = r.before; reach = r.reach }
@@ -123,9 +116,6 @@ module _ {p : List ℕ} {i d : ℕ} where
 
   -- ---- a piece
 
-  pub piece-refused : {n k : ℕ} → Says atom p i d (refused n k) → Says piece p i d (refused n k)
-  piece-refused x = record { by = λ l r n. x.by l r n }
-
   pub piece-once : {X : Tree} {j : ℕ} → Says atom p i d (tree X j) → is_repeat (token (drop j p)) ≡ false → Says piece p i d (tree X j)
   piece-once x h = record {
     by = λ l r n. let y = x.by l r n in
@@ -146,9 +136,6 @@ module _ {p : List ℕ} {i d : ℕ} where
   pub branch-empty : stops (token (drop i p)) ≡ true → Says branch p i d (tree nothing i)
   branch-empty e = record { by = λ l r. record { spells = empty_branch; past = past_of r; stop = e } }
 
-  pub branch-refused : {n k : ℕ} → stops (token (drop i p)) ≡ false → Says piece p i d (refused n k) → Says branch p i d (refused n k)
-  branch-refused e h = record { by = λ l r. h.by l r e }
-
   pub branch-on : {X : Tree} {j : ℕ} {r : Answer} → stops (token (drop i p)) ≡ false → Says piece p i d (tree X j) → Says (pieces X) p j d r → Says branch p i d r
   branch-on {r = r} e h k = record {
     by = λ l q. let x = h.by l q e in
@@ -165,9 +152,6 @@ module _ {p : List ℕ} {i d : ℕ} where
   pieces-on e h k = record { by = λ l m x q. let y = h.by l q e in k.by l m (next_piece x y.spells) y.ready }
 
   -- ---- a pattern
-
-  pub pattern-refused : {n k : ℕ} → Says branch p i d (refused n k) → Says pattern p i d (refused n k)
-  pattern-refused h = record { by = λ l r. h.by l r }
 
   pub pattern-on : {X : Tree} {j : ℕ} {r : Answer} → Says branch p i d (tree X j) → Says (branches X) p j d r → Says pattern p i d r
   pattern-on h k = record { by = λ l q. let x = h.by l q in k.by l i (first_branch x.spells) x.past x.stop }

@@ -1,14 +1,13 @@
 -- What reading a pattern answers.
-use Rattle.std.specs.Prelude.{◌≡◌, Bool, true, false, List, ℕ, ◌+◌, ◌*◌, ◌-◌, ◌≤◌, ltb, length}
+use Rattle.std.specs.Prelude.{◌≡◌, Bool, true, false, List, ℕ, ◌+◌, ◌*◌, ◌-◌, ◌≤◌, ltb, length, Result, Ok, Err}
 use Rattle.rules.specs.Sizes.{pattern_most}
 use Rattle.rules.specs.Tree.{Tree}
 use Rattle.rules.specs.Reader as rules
 use Rattle.rules.specs.Reader.{got, bad, read}
 use Rattle.rules.specs.Answers.{refusal, Answer, refused, given}
+use Rattle.kinds.specs.declared.Refusal.{Refusal}
 use Rattle.kinds.specs.Refusals.{refusal_of}
 use Rattle.program.specs.Program.{program_most, Program}
-use Rattle.reader.specs.declared.Reading.{Reading}
-use Rattle.reader.specs.declared.Reading.TheVariants as reading
 
 abbrev pub of_reading : List ℕ → rules.Reading → Answer Tree
 of_reading p (got X) = given X
@@ -34,6 +33,6 @@ pub record ProgramOf (p words : List ℕ) (n : ℕ) : Type 0 where
   pub fits : n ≤ length words
   pub short : n ≤ program_most
 
-abbrev pub ReadAs : List ℕ → List ℕ → Reading → Type 0
-ReadAs p words (reading.Program n) = ProgramOf p words n
-ReadAs p words (reading.Refused r) = answer p ≡ refused (refusal_of r)
+abbrev pub ReadAs : List ℕ → List ℕ → Result ℕ Refusal → Type 0
+ReadAs p words (Ok n) = ProgramOf p words n
+ReadAs p words (Err r) = answer p ≡ refused (refusal_of r)

@@ -1,5 +1,5 @@
 -- What a reader of the cycle asks, what it answers, and what it leaves in the program.
-use Rattle.std.specs.Prelude.{◌≡◌, false, List, ℕ, ◌+◌, ◌*◌, ◌-◌, ◌≤◌, ◌<◌, length, drop, take, get_or}
+use Rattle.std.specs.Prelude.{◌≡◌, false, List, ℕ, ◌+◌, ◌*◌, ◌-◌, ◌≤◌, ◌<◌, length, drop, take, get_or, Option, Some, None, Result, Ok, Err}
 use Rattle.rules.specs.Sizes.{pattern_most, groups_most}
 use Rattle.rules.specs.Signs.{opens_group, sign}
 use Rattle.rules.specs.Tree.{Tree}
@@ -10,10 +10,10 @@ use Rattle.signs.specs.Answers.{repeat_of}
 use Rattle.program.specs.Program.{Program}
 use Rattle.reader.specs.Says.{tree, refused, Mode, atom, piece, branch, pattern, pieces, branches, is_repeat, Says}
 use Rattle.signs.specs.declared.sign.Sign.{Sign}
-use Rattle.reader.specs.declared.tree.Got.{Got}
-use Rattle.reader.specs.declared.tree.Got.TheVariants as got
-use Rattle.reader.specs.declared.tree.After.{After}
-use Rattle.reader.specs.declared.tree.After.TheVariants as after
+use Rattle.signs.specs.declared.count.Repeat.{Repeat}
+use Rattle.kinds.specs.declared.Refusal.{Refusal}
+use Rattle.kinds.specs.Refusals.{refusal_of}
+use Rattle.rules.specs.Answers.{refusal}
 
 -- the bytes that are read at least
 abbrev pub least : Mode → ℕ
@@ -34,6 +34,7 @@ pub record Asks (m : Mode) (p : List ℕ) (at d n : ℕ) (words : List ℕ) : Ty
 -- the byte at `at` has this sign, which opens no group
 pub record AsksSingle (p : List ℕ) (at : ℕ) (first : Sign) (n : ℕ) (words : List ℕ) : Type 0 where
   pub within : at < length p
+  pub short : length p ≤ pattern_most
   pub is : sign_of first ≡ sign (get_or p at 0)
   pub no-group : sign_of first ≡ opens_group → ⊥
   pub room : n + 2 * (length p - at) ≤ length words
@@ -49,12 +50,12 @@ pub record Done (m : Mode) (p : List ℕ) (at d n : ℕ) (old new : List ℕ) (n
   pub high : next ≤ length p
   pub room : k + 2 * (length p - next) + 2 * least m ≤ n + 2 * (length p - at) + 1
 
-abbrev pub Told : Mode → List ℕ → ℕ → ℕ → ℕ → List ℕ → List ℕ → Got → Type 0
-Told m p at d n old new (got.Read next k) = Done m p at d n old new next k
-Told m p at d n old new (got.Bad number place) = Says m p at d (refused number place)
+abbrev pub Told : Mode → List ℕ → ℕ → ℕ → ℕ → List ℕ → List ℕ → Result (ℕ × ℕ) Refusal → Type 0
+Told m p at d n old new (Ok x) = Done m p at d n old new x.0 x.1
+Told m p at d n old new (Err r) = Says m p at d (refused (refusal_of r).number (refusal_of r).place)
 
--- what stands after an atom
-abbrev pub AfterAtom : List ℕ → ℕ → After → Type 0
-AfterAtom p at after.Nothing = is_repeat (token (drop at p)) ≡ false
-AfterAtom p at (after.Sign k next) = (token (drop at p) ≡ repeats (repeat_of k) (drop next p)) × (at < next) × (next ≤ length p)
-AfterAtom p at after.Bad = token (drop at p) ≡ no_count
+-- what stands after an atom: no repeat sign, one up to a place, or a bad count
+abbrev pub AfterAtom : List ℕ → ℕ → Result (Option (Repeat × ℕ)) Refusal → Type 0
+AfterAtom p at (Ok None) = is_repeat (token (drop at p)) ≡ false
+AfterAtom p at (Ok (Some x)) = (token (drop at p) ≡ repeats (repeat_of x.0) (drop x.1 p)) × (at < x.1) × (x.1 ≤ length p)
+AfterAtom p at (Err r) = (token (drop at p) ≡ no_count) × (refusal_of r ≡ refusal 3 at)

@@ -1,41 +1,15 @@
--- Digits of base 16, and the pattern of a line byte by byte.
+-- The pattern of a line, byte by byte.
 use mathlib.Core.Path.{◌≡◌, refl, sym, ap, ◌∙◌}
 use mathlib.Core.Bool.{Bool, true, false}
 use mathlib.Core.List.{List, [], ◌∷◌, ◌++◌, append_assoc, append-nil}
-use Prim.Native.Nat.{ℕ, ◌+◌, ◌*◌, ◌-◌, ◌≤◌, ◌<◌}
+use Prim.Native.Nat.{ℕ, ◌+◌, ◌*◌, ◌≤◌, ◌<◌}
 use native.Mathlib.Numerals.{add-one}
 use native.Mathlib.Omega.{arith}
-use borrow.Author.Tests.{le-leb, ne_eqb}
+use borrow.Author.Tests.{ne_eqb}
 use lib.ListN.{length, get_or, take, drop, set, length-drop, drop_of_length-le}
 use lib.Seq.{take-suc-set}
-use Rattle.rules.specs.Signs.{within}
-use Rattle.rules.proofs.Tests.{within_both}
 use Rattle.signs.proofs.Places.{here, two_here}
 use Rattle.readings.specs.Lines.{hex_value, pattern_of, Written, Unwritten}
-
--- ---- digits
-
-inside : (lo hi c : ℕ) → lo ≤ c → c ≤ hi → within lo hi c ≡ true
-inside lo hi c l h = rw (le-leb lo c l, le-leb c hi h)
-
-outside : (lo hi c : ℕ) → (lo ≤ c → c ≤ hi → ⊥) → within lo hi c ≡ false
-outside lo hi c apart = go (within lo hi c) refl
-  where
-    go : (b : Bool) → within lo hi c ≡ b → b ≡ false
-    go true e = let h = within_both lo hi c e in absurd (apart h.0 h.1)
-    go false e = refl
-
-pub digit_value : (c : ℕ) → 48 ≤ c → c ≤ 57 → hex_value c ≡ c - 48
-digit_value c l h = rw (inside 48 57 c l h)
-
-pub upper-value : (c : ℕ) → 65 ≤ c → c ≤ 70 → hex_value c ≡ c - 55
-upper-value c l h = rw (outside 48 57 c (λ a b. omega arith), inside 65 70 c l h)
-
-pub lower-value : (c : ℕ) → 97 ≤ c → c ≤ 102 → hex_value c ≡ c - 87
-lower-value c l h = rw (outside 48 57 c (λ a b. omega arith), outside 65 70 c (λ a b. omega arith), inside 97 102 c l h)
-
-pub no_value : (c : ℕ) → (48 ≤ c → c ≤ 57 → ⊥) → (65 ≤ c → c ≤ 70 → ⊥) → (97 ≤ c → c ≤ 102 → ⊥) → hex_value c ≡ 0
-no_value c p q r = rw (outside 48 57 c p, outside 65 70 c q, outside 97 102 c r)
 
 -- ---- the byte at a place
 
@@ -74,22 +48,9 @@ pub record Copied (line pattern : List ℕ) (at n : ℕ) : Type 0 where
   pub behind : n ≤ at
   pub within : at ≤ length line
 
-one_more : (l : List ℕ) (i v : ℕ) → i < length l → take (i + 1) (set l i v) ≡ take i l ++ (v ∷ [])
-one_more l i v h = rw add-one (take-suc-set l i v h)
-
-pub copied : {line pattern : List ℕ} {at n v next : ℕ} → n < length pattern → Copied line pattern at n → Written line at v next → Copied line (set pattern n v) next (n + 1)
-copied {line} {pattern} {at} {n} {v} {next} h c w = record {
-  is = ap (λ (l : List ℕ). l ++ pattern_of (drop next line)) (one_more pattern n v h)
-      ∙ append_assoc (take n pattern) (v ∷ []) (pattern_of (drop next line))
-      ∙ ap (λ (l : List ℕ). take n pattern ++ l) (sym w.is)
-      ∙ c.is;
-  behind = omega arith;
-  within = w.within;
-}
-
-pub all-copied : {line pattern : List ℕ} {at n : ℕ} → Copied line pattern at n → length line ≤ at → n ≤ length pattern → Unwritten line pattern n
+pub all_copied : {line pattern : List ℕ} {at n : ℕ} → Copied line pattern at n → length line ≤ at → n ≤ length pattern → Unwritten line pattern n
 unfolding pattern_of
-all-copied {line} {pattern} {at} {n} c h fits = record {
+all_copied {line} {pattern} {at} {n} c h fits = record {
   is = sym (append-nil (take n pattern)) ∙ ap (λ (l : List ℕ). take n pattern ++ pattern_of l) (sym (drop_of_length-le line h)) ∙ c.is;
   fits = fits;
 }

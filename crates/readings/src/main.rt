@@ -7,89 +7,57 @@ ghost use Rattle.readings.specs.Lines.{hex_value, line_most, Written, Unwritten,
 
 use kinds::PATTERN_MOST;
 use program::PROGRAM_MOST;
-use reader::Reading;
+use signs::escape::hex_digit;
 
 // As much of a line as is kept: any pattern that is not too long is whole, and any other still too long.
 const LINE_MOST: usize = 3 * PATTERN_MOST + 3;
 
 // A digit of base 16; another byte counts as 0.
 fn hex_value(c: u8) -> u8
-    ensures { (result ≡ hex_value c) × (result < 16) }
+    ensures is { result ≡ hex_value c }
+    ensures small { result < 16 }
 {
-    match c {
-        b'0'..=b'9' => c - b'0',
-        b'A'..=b'F' => c - b'A' + 10,
-        b'a'..=b'f' => c - b'a' + 10,
-        _ => 0,
-    }
+    hex_digit(c).unwrap_or(0)
 }
 
-// A byte of a pattern, and the place in the line after it.
-#[derive(Drop)]
-struct Byte {
-    value: u8,
-    next: usize,
-}
-
-// The byte that is written at `at`.
-fn byte_at(line: &[u8], at: usize) -> Byte
+// The byte of a pattern that is written at `at`, and the place in the line after it.
+#[tactic(auto, using(crate::proofs::LineLaws::escaped, crate::proofs::LineLaws::plain))]
+fn byte_at(line: &[u8], at: usize) -> (u8, usize)
     requires { at < length line.now }
-    ensures { Written line.now at result.value result.next }
+    ensures { Written line.now at result.0 result.1 }
 {
-    if line[at] == b'%' {
-        if at + 2 < line.len() {
-            return Byte {
-                value: 16 * hex_value(line[at + 1]) + hex_value(line[at + 2]),
-                next: at + 3,
-            };
-        }
+    if line[at] == b'%' && at + 2 < line.len() {
+        return (
+            16 * hex_value(line[at + 1]) + hex_value(line[at + 2]),
+            at + 3,
+        );
     }
-    Byte {
-        value: line[at],
-        next: at + 1,
-    }
+    (line[at], at + 1)
 }
 
 // Writes the pattern of a line to the start of `pattern`, and answers its length.
+#[tactic(auto, using(crate::proofs::LineLaws::all_copied))]
 fn unwritten(line: &[u8], pattern: &mut [u8]) -> usize
     requires { length line.now ≤ length pattern.old }
     ensures { Unwritten line.now pattern.new result }
 {
     let mut at = 0;
     let mut n = 0;
+    // A while: the step is 1 or 3.
     while at < line.len() {
-        let byte = byte_at(line, at);
-        pattern[n] = byte.value;
+        (pattern[n], at) = byte_at(line, at);
         n += 1;
-        at = byte.next;
     }
     n
 }
 
 // What can't be written is left out.
-fn say(output: &impl Print, words: &[u8]) {
-    let _ = output.write_all(words);
-}
-
-fn say_number(output: &impl Print, n: u64) {
-    let _ = output.print(n);
-}
-
 fn print_reading(output: &impl Print, pattern: &[u8]) {
     let mut program = [0u64; PROGRAM_MOST];
-    match reader::read_pattern(pattern, &mut program) {
-        Reading::Program(n) => {
-            say(output, b"words ");
-            say_number(output, n as u64);
-        }
-        Reading::Refused(refusal) => {
-            say(output, b"refused ");
-            say_number(output, kinds::number(refusal) as u64);
-            say(output, b" at ");
-            say_number(output, kinds::place(refusal) as u64);
-        }
-    }
-    say(output, b"\n");
+    let _ = match reader::read_pattern(pattern, &mut program) {
+        Ok(n) => println!(output; "words {n}"),
+        Err(refusal) => println!(output; "refused {} at {}", refusal.number(), refusal.place()),
+    };
 }
 
 fn print_line(output: &impl Print, line: &[u8])
@@ -122,28 +90,24 @@ fn add_all(output: &impl Print, line: &mut [u8], begun: usize, piece: &[u8]) -> 
     ensures { Begun line.new result }
 {
     let mut n = begun;
-    let mut i = 0;
-    while i < piece.len() {
-        n = add(output, line, n, piece[i]);
-        i += 1;
+    for &byte in piece {
+        n = add(output, line, n, byte);
     }
     n
 }
 
-// Nothing says that an input ends, so its pieces are counted down from a number that no run uses up.
+// Nothing says that an input ends, so its pieces are counted up to a number that no run comes to.
 fn main(rt: HostRuntime) {
     let mut input = rt.reader();
     let output = rt.stdout();
     let mut line = [0u8; LINE_MOST];
     let mut n = 0;
-    let mut pieces = u64::MAX;
-    while 0 < pieces {
+    for _ in 0..u64::MAX {
         let mut piece = io::large_buffer();
         let got = streams::read_most(&mut input, &mut piece);
         if got == 0 {
             return;
         }
         n = add_all(&output, &mut line, n, &piece[..got]);
-        pieces -= 1;
     }
 }

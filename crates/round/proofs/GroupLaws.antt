@@ -1,6 +1,6 @@
 -- Rows sorted into groups: the search for a row's group, a row more, and what is left when every row is passed.
-use mathlib.Core.Path.{◌≡◌, refl, sym, ap, ◌∙◌, subst}
-use mathlib.Core.Logic.{◌≢◌, ◌⊎◌, ⊎_elim}
+use mathlib.Core.Path.{◌≡◌, sym, ap, ◌∙◌, subst}
+use mathlib.Core.Logic.{◌≢◌, ◌⊎◌, inl, ⊎_elim}
 use mathlib.Core.List.{List}
 use Prim.Native.Nat.{ℕ, ◌+◌, ◌-◌, ◌≤◌, ◌<◌}
 use native.Mathlib.Decide.{ℕ_discrete, dec_lt}
@@ -11,59 +11,53 @@ use lib.Seq.{get_or-set_same, get_or-set_other}
 use Rattle.rules.specs.Sizes.{rows_most}
 use Rattle.mixing.specs.Mixing.{buckets}
 use Rattle.keys.specs.Keys.{Alike, Idle, bucket_of}
-use Rattle.keys.proofs.KeyLaws.{Bytes, same-bucket, alike_refl, alike-sym, alike-trans}
+use Rattle.keys.proofs.KeyLaws.{alike_refl, alike-sym, alike-trans}
+use Rattle.keys.specs.declared.Keys.{Keys}
+use Rattle.chains.specs.declared.Groups.{Groups}
+use Rattle.round.specs.declared.Buckets.{Buckets}
+use Rattle.sets.specs.Sets.{member}
+use Rattle.round.specs.Members.{NoneTo}
+use Rattle.round.specs.Lent.{Filed_in}
 use Rattle.chains.specs.Chains.{Latest, Linked}
 use Rattle.chains.proofs.ChainLaws.{linked-more, ends_more, labels-none, count-below, count_fits, label-cases, joined, opened}
-use Rattle.round.specs.Groups.{bucket_at, Book, Firsts, Sought, there, nowhere, Filed, Passed, Lists, Sorted, Single}
+use Rattle.round.specs.Groups.{bucket_at, Book, Filed, Passed, Sorted, Single, Touches}
 
 -- ---- the search
 
--- a group that row r goes with is before x, which is one more than a group of r's bucket, or 0
-pub record Seek (cells class bytes firsts : List ℕ) (from groups r x : ℕ) : Type 0 where
-  pub at : (x ≢ 0) → (x ≤ groups) × (bucket_at cells class from bytes firsts (x - 1) ≡ bucket_of cells class from bytes r)
+-- a group that row r goes with is before x, which is one more than a group of the bucket k, or 0
+pub record Seek (cells class bytes firsts : List ℕ) (from groups r k x : ℕ) : Type 0 where
+  pub at : (x ≢ 0) → (x ≤ groups) × (bucket_at cells class from bytes firsts (x - 1) ≡ k)
   pub most : (g : ℕ) → g < groups → Alike cells class from (get_or firsts g 0) r → g < x
 
 -- x is one more than a group
-pub seek-in : {cells class bytes firsts : List ℕ} {from groups r x : ℕ} → Seek cells class bytes firsts from groups r x → x ≢ 0 → x - 1 < groups
+pub seek-in : {cells class bytes firsts : List ℕ} {from groups r k x : ℕ} → Seek cells class bytes firsts from groups r k x → x ≢ 0 → x - 1 < groups
 seek-in S ne = omega (arith, (S.at ne).0, ne)
 
-module _ {cells class bytes firsts : List ℕ} {from groups r : ℕ} (p : Bytes bytes) where
-  pub seek-first : {x : ℕ} → Latest (bucket_at cells class from bytes firsts) (bucket_of cells class from bytes r) groups x → Seek cells class bytes firsts from groups r x
-  seek-first L = record { at = L.is; most = λ g l s. L.most g l (same-bucket s bytes p) }
+-- rows that go as row r are of the bucket k
+module _ {cells class bytes firsts : List ℕ} {from groups r k : ℕ} (own : (q : ℕ) → Alike cells class from q r → bucket_of cells class from bytes q ≡ k) where
+  pub seek-first : {x : ℕ} → Latest (bucket_at cells class from bytes firsts) k groups x → Seek cells class bytes firsts from groups r k x
+  seek-first L = record { at = L.is; most = λ g l s. L.most g l (own (get_or firsts g 0) s) }
 
-  module _ {x : ℕ} (S : Seek cells class bytes firsts from groups r x) (ne : x ≢ 0) where
-    pub seek-next : (links : List ℕ) → Linked (bucket_at cells class from bytes firsts) links groups → (Alike cells class from (get_or firsts (x - 1) 0) r → ⊥)
-        → (get_or links (x - 1) 0 < x) × Seek cells class bytes firsts from groups r (get_or links (x - 1) 0)
-    seek-next links linked other = (
-      below (ℕ_discrete (get_or links (x - 1) 0) 0),
-      record {
-        at = λ n. (omega (arith, (L.is n).0, (S.at ne).0), (L.is n).1 ∙ (S.at ne).1);
-        most = λ g l s. L.most g (before g s (S.most g l s) (ℕ_discrete g (x - 1))) (same-bucket s bytes p ∙ sym (S.at ne).1);
-      },
-    )
-      where
-        L : Latest (bucket_at cells class from bytes firsts) (bucket_at cells class from bytes firsts (x - 1)) (x - 1) (get_or links (x - 1) 0)
-        L = linked (x - 1) (seek-in S ne)
+  pub seek-next : {x : ℕ} (links : List ℕ) → Seek cells class bytes firsts from groups r k x → x ≢ 0 → Linked (bucket_at cells class from bytes firsts) links groups
+      → (Alike cells class from (get_or firsts (x - 1) 0) r → ⊥) → (get_or links (x - 1) 0 < x) × Seek cells class bytes firsts from groups r k (get_or links (x - 1) 0)
+  seek-next {x} links S ne linked other = (
+    below (ℕ_discrete (get_or links (x - 1) 0) 0),
+    record {
+      at = λ n. (omega (arith, (L.is n).0, (S.at ne).0), (L.is n).1 ∙ (S.at ne).1);
+      most = λ g l s. L.most g (before g s (S.most g l s) (ℕ_discrete g (x - 1))) (own (get_or firsts g 0) s ∙ sym (S.at ne).1);
+    },
+  )
+    where
+      L : Latest (bucket_at cells class from bytes firsts) (bucket_at cells class from bytes firsts (x - 1)) (x - 1) (get_or links (x - 1) 0)
+      L = linked (x - 1) (seek-in S ne)
 
-        below : Dec (get_or links (x - 1) 0 ≡ 0) → get_or links (x - 1) 0 < x
-        below (yes q) = omega (arith, ne)
-        below (no n) = omega (arith, (L.is n).0, ne)
+      below : Dec (get_or links (x - 1) 0 ≡ 0) → get_or links (x - 1) 0 < x
+      below (yes q) = omega (arith, ne)
+      below (no n) = omega (arith, (L.is n).0, ne)
 
-        before : (g : ℕ) → Alike cells class from (get_or firsts g 0) r → g < x → Dec (g ≡ x - 1) → g < x - 1
-        before g s l (yes q) = absurd (other (subst (λ (k : ℕ). Alike cells class from (get_or firsts k 0) r) q s))
-        before g s l (no q) = omega arith
-
-  pub seek-none : {x : ℕ} → Seek cells class bytes firsts from groups r x → x ≡ 0 → Sought cells class firsts from groups r groups
-  seek-none S e = nowhere refl (λ h l s. omega (arith, S.most h l s))
-
-module _ {cells class firsts : List ℕ} {from groups r g : ℕ} where
-  pub sought-none : g ≡ groups → Sought cells class firsts from groups r g → (h : ℕ) → h < groups → Alike cells class from (get_or firsts h 0) r → ⊥
-  sought-none e (there l s) = absurd (omega arith)
-  sought-none e (nowhere q none) = none
-
-  pub sought-there : g ≢ groups → Sought cells class firsts from groups r g → (g < groups) × Alike cells class from (get_or firsts g 0) r
-  sought-there ne (there l s) = (l, s)
-  sought-there ne (nowhere q none) = absurd (ne q)
+      before : (g : ℕ) → Alike cells class from (get_or firsts g 0) r → g < x → Dec (g ≡ x - 1) → g < x - 1
+      before g s l (yes q) = absurd (other (subst (λ (h : ℕ). Alike cells class from (get_or firsts h 0) r) q s))
+      before g s l (no q) = omega arith
 
 -- ---- a group more
 
@@ -95,6 +89,13 @@ book-none long-f long-l = record {
 
 -- ---- what rows in groups say
 
+-- lists for the rows of the classes
+pub record Lists (class seen prior last : List ℕ) : Type 0 where
+  pub few : length class ≤ rows_most
+  pub seen-long : length seen ≡ length class
+  pub prior-long : length prior ≡ length class
+  pub last-long : length last ≡ length class
+
 module _ {cells class bytes seen prior last firsts heads links : List ℕ} {from count groups r : ℕ} (F : Filed cells class bytes seen prior last firsts heads links from count groups r) where
   filed-few : (groups ≤ count) × (count ≤ r)
   filed-few = (F.labelled.few, count-below F.labelled r F.before)
@@ -112,11 +113,13 @@ module _ {cells class bytes seen prior last firsts heads links : List ℕ} {from
     omega (arith, T.few),
   )
 
-  pub filed-firsts : r ≤ length class → Firsts class firsts links groups
-  filed-firsts l = record { firsts-long = omega (arith, filed-few, F.book.firsts-long); links-long = omega (arith, filed-few, F.book.links-long); row = F.first-in }
+pub lists-in : {keys : Keys} {groups : Groups} {b : Buckets} {r : ℕ} → Filed_in keys groups b r → Lists keys.class.now groups.seen.now groups.prior.now groups.last.now
+lists-in {keys} F = record { few = keys.rows.few; seen-long = F.room.seen-long; prior-long = F.room.prior-long; last-long = F.room.last-long }
 
-  pub filed-latest : {k : ℕ} → k < buckets → k ≡ bucket_of cells class from bytes r → Latest (bucket_at cells class from bytes firsts) (bucket_of cells class from bytes r) groups (get_or heads k 0)
-  filed-latest {k} l e = subst (λ (j : ℕ). Latest (bucket_at cells class from bytes firsts) j groups (get_or heads k 0)) e (F.book.latest k l)
+pub room-in : {keys : Keys} {groups : Groups} {b : Buckets} {r : ℕ} → Filed_in keys groups b r → r < length keys.class.now
+    → (b.rows < length groups.seen.now) × (b.rows < length groups.prior.now) × (b.many < length groups.last.now) × (b.many < length b.firsts.now) × (b.many < length b.links.now)
+    × (b.rows < rows_most) × (r < rows_most)
+room-in F l = filed-room F.filed (lists-in F) l
 
 -- ---- a row more
 
@@ -227,10 +230,15 @@ module _ {cells class start end seen : List ℕ} {from count r : ℕ} (P : Passe
       rest i l li none (no m) = by i (omega arith) l li
 
 -- row r is passed by
-pub passed-by : {cells class start end seen : List ℕ} {from count r : ℕ} → Passed cells class start end seen from count r → Idle cells class from r ⊎ Single start end (get_or class r 0)
+pub passed_by : {cells class start end seen : List ℕ} {from count r : ℕ} → Passed cells class start end seen from count r → Idle cells class from r ⊎ Single start end (get_or class r 0)
     → Passed cells class start end seen from count (r + 1)
-passed-by {cells} {class} {start} {end} {seen} {from} {count} {r} P by =
+passed_by {cells} {class} {start} {end} {seen} {from} {count} {r} P by =
     passed_to P (r + 1) (λ i l m li. subst (λ (x : ℕ). Idle cells class from x ⊎ Single start end (get_or class x 0)) (omega arith) by)
+
+-- rows that are not touched are passed over
+pub passed_over : {cells class start end seen set touched : List ℕ} {from count r n to : ℕ} → Passed cells class start end seen from count r → Touches cells class touched from → set ≡ touched
+    → NoneTo set r n to → Passed cells class start end seen from count to
+passed_over {to = to} P T e N = passed_to P to (λ i l m li. inl (T i li (ap (λ (ws : List ℕ). member ws i) (sym e) ∙ N.none i l m)))
 
 pub passed_none : {cells start end seen : List ℕ} {from : ℕ} (class : List ℕ) → Passed cells class start end seen from 0 0
 passed_none class = record { rest = λ i l. absurd (omega arith) }

@@ -1,3 +1,2 @@
 pub mod MemberLaws
 pub mod GroupLaws
-pub mod RowLaws

@@ -1,6 +1,5 @@
 -- Rows sorted into groups: those of one class that go to classes of the same keys.
-use Rattle.std.specs.Prelude.{◌≡◌, ◌⊎◌, ◌≢◌, false, List, ℕ, ◌+◌, ◌≤◌, ◌<◌, length, get_or}
-use Rattle.rules.specs.Sizes.{rows_most}
+use Rattle.std.specs.Prelude.{◌≡◌, ◌⊎◌, ◌≢◌, false, Option, Some, None, List, ℕ, ◌+◌, ◌≤◌, ◌<◌, length, get_or}
 use Rattle.sets.specs.Sets.{member}
 use Rattle.mixing.specs.Mixing.{buckets}
 use Rattle.keys.specs.Keys.{Alike, Idle, bucket_of}
@@ -26,10 +25,10 @@ pub record Firsts (class firsts links : List ℕ) (groups : ℕ) : Type 0 where
   pub links-long : groups ≤ length links
   pub row : (g : ℕ) → g < groups → get_or firsts g 0 < length class
 
--- a group whose first row goes as row r; or the number of groups, and there is none
-pub data Sought (cells class firsts : List ℕ) (from groups r g : ℕ) : Type 0 where
-  there : g < groups → Alike cells class from (get_or firsts g 0) r → Sought cells class firsts from groups r g
-  nowhere : g ≡ groups → ((h : ℕ) → h < groups → Alike cells class from (get_or firsts h 0) r → ⊥) → Sought cells class firsts from groups r g
+-- a group whose first row goes as row r, or there is none
+abbrev pub Sought : Option ℕ → List ℕ → List ℕ → List ℕ → ℕ → ℕ → ℕ → Type 0
+Sought None cells class firsts from groups r = (h : ℕ) → h < groups → Alike cells class from (get_or firsts h 0) r → ⊥
+Sought (Some g) cells class firsts from groups r = (g < groups) × Alike cells class from (get_or firsts g 0) r
 
 -- ---- sorting
 
@@ -52,13 +51,6 @@ pub record Filed (cells class bytes seen prior last firsts heads links : List �
 -- the rows before row r that are in no group go to no class that waits, or are alone in their class
 pub record Passed (cells class start end seen : List ℕ) (from count r : ℕ) : Type 0 where
   pub rest : (i : ℕ) → i < r → i < length class → ((x : ℕ) → x < count → get_or seen x 0 ≢ i) → Idle cells class from i ⊎ Single start end (get_or class i 0)
-
--- lists for the rows of the classes
-pub record Lists (class seen prior last : List ℕ) : Type 0 where
-  pub few : length class ≤ rows_most
-  pub seen-long : length seen ≡ length class
-  pub prior-long : length prior ≡ length class
-  pub last-long : length last ≡ length class
 
 -- each row's class has a number and a stretch
 pub record Ends (class start end : List ℕ) : Type 0 where

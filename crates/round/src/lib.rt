@@ -3,178 +3,136 @@
 #![tactic(auto)]
 
 ghost use Rattle.std.specs.Prelude.{◌≡◌, ◌+◌, ◌*◌, ◌≤◌, ◌<◌, length, set};
-ghost use Rattle.mixing.specs.Mixing.{buckets};
-ghost use Rattle.keys.specs.Keys.{Given, Idle, bucket_of};
-ghost use Rattle.chains.specs.Chains.{Latest, Linked};
-ghost use Rattle.round.specs.Groups.{bucket_at, Firsts, Sought, Filed, Passed, Lists, Ends, Sorted, Touches};
+ghost use Rattle.chains.specs.Lent as chains;
+ghost use Rattle.round.specs.Groups.{Ends, Touches};
+ghost use Rattle.round.specs.Lent.{SameLists, Book_in, Firsts_in, Bucket_in, Sought_in, Filed_in, Passed_in, Sorted_in};
 
-use crate::members::next_in;
-use chains::join;
-use keys::{alike, mix_row};
+use crate::members::Members;
+use chains::Groups;
+use keys::Keys;
 use mixing::BUCKETS;
 
 mod members;
 
-// The group that row r goes with, sought from the latest of its bucket down; or the number of groups.
-fn find(
-    cells: &[u16],
-    class: &[u16],
-    bytes: &[u8],
-    from: u16,
-    firsts: &[u16],
-    links: &[u16],
-    latest: u16,
-    groups: usize,
-    r: usize,
-) -> usize
-    requires given { Given cells.now class.now bytes.now × (r < length class.now) }
-    requires firsts { Firsts class.now firsts.now links.now groups }
-    requires linked { Linked (bucket_at cells.now class.now from bytes.now firsts.now) links.now groups
-        × Latest (bucket_at cells.now class.now from bytes.now firsts.now) (bucket_of cells.now class.now from bytes.now r) groups latest }
-    ensures { Sought cells.now class.now firsts.now from groups r result }
-{
-    let mut x = latest as usize;
-    while x != 0 {
-        let m = firsts[x - 1] as usize;
-        if class[m] == class[r] {
-            if alike(cells, class, bytes, from, m, r) {
-                return x - 1;
-            }
-        }
-        x = links[x - 1] as usize;
-    }
-    groups
-}
-
-// How many rows are in groups, and how many groups there are.
+// The groups in their buckets. `firsts` has each group's first row, `heads` for each bucket one more than its latest group, and `links` for
+// each group the same of the one before it in its bucket; 0 is none, where an Option would take twice the room to clear.
 #[derive(Drop)]
-pub struct Count {
-    pub rows: usize,
-    pub groups: usize,
+struct Buckets<'r> {
+    firsts: &'r mut [u16],
+    heads: &'r mut [u16],
+    links: &'r mut [u16],
+    // How many rows are in groups, and how many groups there are.
+    rows: usize,
+    many: usize,
 }
 
-// Row r, which goes to a class that waits, joins the group that it goes with, or opens one.
-fn put_row(
-    cells: &[u16],
-    class: &[u16],
-    bytes: &[u8],
-    from: u16,
-    seen: &mut [u16],
-    prior: &mut [u16],
-    last: &mut [u16],
-    firsts: &mut [u16],
-    heads: &mut [u16],
-    links: &mut [u16],
-    bucket: usize,
-    count: Count,
-    r: usize,
-) -> Count
-    requires given { Given cells.now class.now bytes.now × (Lists class.now seen.old prior.old last.old × (r < length class.now)) }
-    requires filed { Filed cells.now class.now bytes.now seen.old prior.old last.old firsts.old heads.old links.old from count.rows count.groups r }
-    requires bucket_lt_buckets { (bucket < buckets) × ((bucket ≡ bucket_of cells.now class.now from bytes.now r) × (Idle cells.now class.now from r → ⊥)) }
-    ensures filed_2 { Filed cells.now class.now bytes.now seen.new prior.new last.new
-        firsts.new heads.new links.new from result.rows result.groups (r + 1) }
-    ensures rows_value { (result.rows ≡ count.rows + 1) × (seen.new ≡ set seen.old count.rows r) }
-{
-    let rows = count.rows;
-    let groups = count.groups;
-    let g = find(
-        cells,
-        class,
-        bytes,
-        from,
-        firsts,
-        links,
-        heads[bucket],
-        groups,
-        r,
-    );
-    if g == groups {
-        firsts[g] = r as u16;
-        links[g] = heads[bucket];
-        heads[bucket] = (g + 1) as u16;
-        last[g] = 0;
-        join(seen, prior, last, rows, g, r);
-        return Count {
-            rows: rows + 1,
-            groups: groups + 1,
+impl Buckets<'_> {
+    // The group that row r goes with, sought from the latest of its bucket down.
+    fn find(&self, keys: &Keys, bucket: usize, r: usize) -> Option<usize>
+        requires row { (r < length keys.now.class.now) × Bucket_in keys.now bucket r }
+        requires book { Book_in keys.now self.now × Firsts_in keys.now self.now }
+        ensures { Sought_in result keys.now self.now r }
+    {
+        let mut x = self.heads[bucket] as usize;
+        // A while: it goes from link to link.
+        while x != 0 {
+            let g = x - 1;
+            let first = self.firsts[g] as usize;
+            if keys.class[first] == keys.class[r] && keys.alike(first, r) {
+                return Some(g);
+            }
+            x = self.links[g] as usize;
+        }
+        None
+    }
+
+    // Row r, which goes with no group, opens one.
+    fn open(&mut self, keys: &Keys, groups: &mut Groups, bucket: usize, r: usize)
+        requires row { (r < length keys.now.class.now) × Bucket_in keys.now bucket r × Sought_in None keys.now self.old r }
+        requires before { Filed_in keys.now groups.old self.old r }
+        ensures same_lists { SameLists self.old self.new × chains.SameLists groups.old groups.new }
+        ensures after { Filed_in keys.now groups.new self.new (r + 1) }
+        ensures seen { (self.new.rows ≡ self.old.rows + 1) × (groups.new.seen.now ≡ set groups.old.seen.now self.old.rows r) }
+    {
+        let g = self.many;
+        self.firsts[g] = r as u16;
+        self.links[g] = self.heads[bucket];
+        self.heads[bucket] = (g + 1) as u16;
+        groups.last[g] = 0;
+        groups.join(self.rows, g, r);
+        self.rows += 1;
+        self.many += 1;
+    }
+
+    // Row r, which goes to a class that waits, joins the group that it goes with, or opens one.
+    fn put_row(&mut self, keys: &Keys, groups: &mut Groups, bucket: usize, r: usize)
+        requires row { (r < length keys.now.class.now) × Bucket_in keys.now bucket r }
+        requires before { Filed_in keys.now groups.old self.old r }
+        ensures same_lists { SameLists self.old self.new × chains.SameLists groups.old groups.new }
+        ensures after { Filed_in keys.now groups.new self.new (r + 1) }
+        ensures seen { (self.new.rows ≡ self.old.rows + 1) × (groups.new.seen.now ≡ set groups.old.seen.now self.old.rows r) }
+    {
+        let Some(g) = self.find(keys, bucket, r) else {
+            return self.open(keys, groups, bucket, r);
         };
+        groups.join(self.rows, g, r);
+        self.rows += 1;
     }
-    join(seen, prior, last, rows, g, r);
-    Count {
-        rows: rows + 1,
-        groups: groups,
-    }
-}
 
-// Row r is put into a group if it goes to a class that waits, unless it is alone in its class.
-#[tactic(auto, using(crate::proofs::RowLaws::single_passed, crate::proofs::RowLaws::later_filed))]
-fn sort_row(
-    cells: &[u16],
-    class: &[u16],
-    bytes: &[u8],
-    from: u16,
-    start: &[u16],
-    end: &[u16],
-    seen: &mut [u16],
-    prior: &mut [u16],
-    last: &mut [u16],
-    firsts: &mut [u16],
-    heads: &mut [u16],
-    links: &mut [u16],
-    count: Count,
-    r: usize,
-) -> Count
-    requires given { Given cells.now class.now bytes.now × (Lists class.now seen.old prior.old last.old × (Ends class.now start.now end.now × (r < length class.now))) }
-    requires filed { Filed cells.now class.now bytes.now seen.old prior.old last.old firsts.old heads.old links.old from count.rows count.groups r }
-    requires passed { Passed cells.now class.now start.now end.now seen.old from count.rows r }
-    ensures filed_2 { Filed cells.now class.now bytes.now seen.new prior.new last.new
-        firsts.new heads.new links.new from result.rows result.groups (r + 1) }
-    ensures passed_2 { Passed cells.now class.now start.now end.now seen.new from result.rows (r + 1) }
-{
-    let c = class[r] as usize;
-    if end[c] - start[c] == 1 {
-        return count;
+    // Row r is put into a group if it goes to a class that waits, unless it is alone in its class.
+    #[tactic(auto, using(crate::proofs::GroupLaws::passed_by))]
+    fn sort_row(&mut self, keys: &Keys, start: &[u16], end: &[u16], groups: &mut Groups, r: usize)
+        requires row { (r < length keys.now.class.now) × Ends keys.now.class.now start.now end.now }
+        requires before { Filed_in keys.now groups.old self.old r }
+        requires passed_before { Passed_in keys.now start.now end.now groups.old self.old r }
+        ensures same_lists { SameLists self.old self.new × chains.SameLists groups.old groups.new }
+        ensures after { Filed_in keys.now groups.new self.new (r + 1) }
+        ensures passed_after { Passed_in keys.now start.now end.now groups.new self.new (r + 1) }
+    {
+        let c = keys.class[r] as usize;
+        if end[c] - start[c] == 1 {
+            return;
+        }
+        let Some(bucket) = keys.bucket(r) else {
+            return;
+        };
+        self.put_row(keys, groups, bucket, r);
     }
-    let mixed = mix_row(cells, class, bytes, from, r);
-    let bucket = mixed.bucket;
-    if !mixed.any {
-        return count;
-    }
-    put_row(
-        cells, class, bytes, from, seen, prior, last, firsts, heads, links, bucket, count, r,
-    )
 }
 
 // The rows that are touched in groups; how many groups there are.
 pub fn sort(
-    cells: &[u16],
-    class: &[u16],
-    bytes: &[u8],
-    from: u16,
+    keys: &Keys,
     start: &[u16],
     end: &[u16],
     touched: &[u64],
-    seen: &mut [u16],
-    prior: &mut [u16],
-    last: &mut [u16],
+    groups: &mut Groups,
     firsts: &mut [u16],
     links: &mut [u16],
 ) -> usize
-    requires given { Given cells.now class.now bytes.now × (Lists class.now seen.old prior.old last.old × Ends class.now start.now end.now) }
-    requires firsts_len { (length firsts.old ≡ length class.now) × (length links.old ≡ length class.now) }
-    requires touches { Touches cells.now class.now touched.now from × (length class.now ≤ 64 * length touched.now) }
-    ensures { Sorted cells.now class.now start.now end.now seen.new prior.new last.new from result }
+    requires ends { Ends keys.now.class.now start.now end.now }
+    requires room { chains.RoomFor groups.old (length keys.now.class.now)
+        × (length firsts.old ≡ length keys.now.class.now) × (length links.old ≡ length keys.now.class.now) }
+    requires touches { Touches keys.now.cells.now keys.now.class.now touched.now keys.now.from × (length keys.now.class.now ≤ 64 * length touched.now) }
+    ensures same_lists { chains.SameLists groups.old groups.new }
+    ensures room_kept { chains.RoomFor groups.new (length keys.now.class.now) }
+    ensures sorted { Sorted_in keys.now start.now end.now groups.new result }
 {
     let mut heads = [0u16; BUCKETS];
-    let mut count = Count { rows: 0, groups: 0 };
-    let mut r = next_in(touched, 0, class.len());
-    while r < class.len() {
-        count = sort_row(
-            cells, class, bytes, from, start, end, seen, prior, last, firsts, &mut heads, links,
-            count, r,
-        );
-        r = next_in(touched, r + 1, class.len());
+    let mut buckets = Buckets {
+        firsts,
+        heads: &mut heads,
+        links,
+        rows: 0,
+        many: 0,
+    };
+    let rows = Members {
+        set: touched,
+        from: 0,
+        n: keys.class.len(),
+    };
+    for r in rows {
+        buckets.sort_row(keys, start, end, groups, r);
     }
-    count.groups
+    buckets.many
 }

@@ -1,7 +1,7 @@
 // The rows of a set, one after the other.
-ghost use Rattle.std.specs.Prelude.{◌*◌, ◌≤◌, ◌<◌, length};
+ghost use Rattle.std.specs.Prelude.{◌*◌, ◌-◌, ◌≤◌, ◌<◌, length};
 ghost use Rattle.rules.specs.Sizes.{rows_most};
-ghost use Rattle.round.specs.Members.{PastWord, NoneTo};
+ghost use Rattle.round.specs.Members.{PastWord, Next};
 
 use sets;
 
@@ -17,17 +17,49 @@ fn past(word: u64, r: usize) -> usize
     r + 1 + u64::trailing_zeros(after) as usize
 }
 
-// The first row of the set from `from` on, of n rows; or n.
-pub fn next_in(set: &[u64], from: usize, n: usize) -> usize
+// The first row of the set from `from` on, of n rows.
+fn next_in(set: &[u64], from: usize, n: usize) -> Option<usize>
     requires { (n ≤ rows_most) × ((n ≤ 64 * length set.now) × (from ≤ n)) }
-    ensures { NoneTo set.now from n result }
+    ensures { Next result set.now from n }
 {
     let mut r = from;
+    // A while: words and places that are not in are passed over.
     while r < n {
         if sets::test(set, r) {
-            return r;
+            return Some(r);
         }
         r = past(set[r / 64], r);
     }
-    n
+    None
+}
+
+// The rows of a set from `from` on, of n rows.
+#[derive(Drop)]
+pub struct Members<'r> {
+    pub set: &'r [u64],
+    pub from: usize,
+    pub n: usize,
+    ghost few: { n ≤ rows_most },
+    ghost long: { n ≤ 64 * length set.now },
+    ghost within: { from ≤ n },
+}
+
+impl Iterator for Members<'_> {
+    ghost use Rattle.std.specs.Iterator.{at_most};
+    ghost use Rattle.round.specs.NextRow.{GivesNext};
+
+    type Item = usize;
+
+    ghost next_gives = { GivesNext };
+
+    ghost remaining = { λ s. at_most (s.n - s.from) };
+
+    fn next(&mut self) -> Option<usize> {
+        let Some(r) = next_in(self.set, self.from, self.n) else {
+            self.from = self.n;
+            return None;
+        };
+        self.from = r + 1;
+        Some(r)
+    }
 }

@@ -1,5 +1,5 @@
 -- What the lent room and the nodes of a tree give to the listing.
-use mathlib.Core.Path.{◌≡◌, ap, ◌∙◌}
+use mathlib.Core.Path.{◌≡◌}
 use mathlib.Core.List.{List}
 use Prim.Native.Nat.{ℕ, ◌+◌, ◌*◌, ◌/◌, ◌≤◌, min}
 use native.Mathlib.Omega.{arith}
@@ -20,9 +20,9 @@ use Rattle.rows.proofs.SameClosing.{nodes-held}
 
 module _ (cells marks sets : List ℕ) where
   -- K, as the least of two at a time
-  pub room-is : {a b room : ℕ} → a ≡ min (length marks) (length sets / words_a_row) → b ≡ min (length cells / 256) a → room ≡ min rows_most b → room ≡ rows_for (lent cells marks sets)
+  pub room-is : {a b room : ℕ} → a ≡ min rows_most (length cells / 256) → b ≡ min a (length marks) → room ≡ min b (length sets / words_a_row) → room ≡ rows_for (lent cells marks sets)
   unfolding rows_for
-  room-is e f g = g ∙ ap (min rows_most) (f ∙ ap (min (length cells / 256)) e)
+  room-is e f g = omega (arith, e, f, g)
 
   -- so many rows fit
   pub rows_fit : {room : ℕ} → room ≡ rows_for (lent cells marks sets) → (room ≤ rows_most) × RoomFor room cells marks × (words_a_row * room ≤ length sets)

@@ -69,7 +69,8 @@ module _ (nodes : List ℕ) {kind to1 to2 starts masks : List ℕ} {runs words r
   at_row : (X : Tree) → TreeOf kind to1 to2 starts masks runs (length nodes) X → AtRow X (length nodes) nodes starts masks runs sets c q
   at_row X t = record { low = lq; nodes = ap {B = ℕ} (λ (r : SetRow). r.nodes) (row_is K L lq X t) ∙ sym e; masked = t.masked; going = L.going X t }
 
-  pub listed-full : ((X : Tree) (q : ℕ) → AtRow X (length nodes) nodes starts masks runs sets c q → room < row_count X) → (X : Tree) → TreeOf kind to1 to2 starts masks runs words X → room < row_count X
+  pub listed-full : ((X : Tree) (q : ℕ) → AtRow X (length nodes) nodes starts masks runs sets c q → room < row_count X)
+      → (X : Tree) → TreeOf kind to1 to2 starts masks runs words X → room < row_count X
   listed-full full X t = full X q (at_row X (rw same t))
 
   pub listed_more : {new heads' nexts' row : List ℕ} {d m k : ℕ} → RoomFor room cells marks → FilledTo room nodes starts masks runs sets c new heads' nexts' row d 256 → length row ≡ 256 → k ≡ 256

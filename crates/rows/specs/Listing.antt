@@ -1,5 +1,5 @@
 -- Listing the set rows of a tree.
-use Rattle.std.specs.Prelude.{◌≡◌, List, ℕ, ◌+◌, ◌*◌, ◌-◌, ◌≤◌, ◌<◌, length, get_or}
+use Rattle.std.specs.Prelude.{◌≡◌, List, ℕ, ◌+◌, ◌*◌, ◌-◌, ◌≤◌, ◌<◌, length, get_or, Option, Some, None}
 use Rattle.rules.specs.Sizes.{words_a_row}
 use Rattle.rules.specs.Tree.{Tree}
 use Rattle.rules.specs.SetRows.{machine, row_at, set_rows, row_count, mark_of}
@@ -10,9 +10,10 @@ use Rattle.known.specs.Known.{Book}
 use Rattle.runs.specs.Runs.{Starts}
 use Rattle.cells.specs.Cells.{place_of, Masked, MasksUnder, RowsUnder, Going, taken_at}
 use Rattle.rows.specs.Rows.{ListedOf}
-use Rattle.cells.specs.declared.Filled.{Filled}
-use Rattle.cells.specs.declared.Filled.TheVariants as filled
-use Rattle.rows.specs.declared.Listed.{Listed}
+use Rattle.cells.specs.declared.Runs.{Runs}
+use Rattle.known.specs.declared.Known.{Known}
+use Rattle.entries.specs.Entries.{kinds_of, firsts_of, seconds_of}
+use Rattle.entries.specs.declared.Entry.{Entry}
 
 -- what stays as it is while rows are listed: the nodes, and the runs with their masks, in words that are wide enough
 pub record Given (kind to1 to2 starts masks : List ℕ) (runs words : ℕ) : Type 0 where
@@ -43,12 +44,23 @@ pub record ListedTo (kind to1 to2 starts masks : List ℕ) (runs words room : �
   pub leads : (X : Tree) → TreeOf kind to1 to2 starts masks runs words X → (p b : ℕ) → p < q → b < 256 → get_or cells (256 * p + b) 0 ≡ place_of (machine X) p b
   pub marked : (X : Tree) → TreeOf kind to1 to2 starts masks runs words X → (p : ℕ) → p < q → get_or marks p 0 ≡ mark_of (machine X) (row_at (set_rows (machine X)) p)
 
--- row q has its cells and its mark, and the rows it leads to are listed; or there is no room for all rows of the tree
-abbrev pub RowListed : List ℕ → List ℕ → List ℕ → List ℕ → List ℕ → ℕ → ℕ → ℕ → List ℕ → List ℕ → List ℕ → List ℕ → List ℕ → ℕ → Filled → Type 0
-RowListed kind to1 to2 starts masks runs words room cells marks sets heads nexts q (filled.Rows d) =
-    ListedTo kind to1 to2 starts masks runs words room cells marks sets heads nexts d (q + 1)
-RowListed kind to1 to2 starts masks runs words room cells marks sets heads nexts q filled.Full =
-    (X : Tree) → TreeOf kind to1 to2 starts masks runs words X → room < row_count X
+-- ---- of the entries, the runs and what is known
 
-abbrev pub AllListed : List ℕ → List ℕ → List ℕ → List ℕ → List ℕ → ℕ → ℕ → Room → Room → Listed → Type 0
-AllListed kind to1 to2 starts masks runs words old new r = (X : Tree) → TreeOf kind to1 to2 starts masks runs words X → ListedOf X old new r
+abbrev pub GivenBy : List Entry → Runs → ℕ → Type 0
+GivenBy l r words = Given (kinds_of l) (firsts_of l) (seconds_of l) r.starts.now r.masks.now r.count words
+
+abbrev pub TreeBy : List Entry → Runs → ℕ → Tree → Type 0
+TreeBy l r words = TreeOf (kinds_of l) (firsts_of l) (seconds_of l) r.starts.now r.masks.now r.count words
+
+abbrev pub ListedBy : List Entry → Runs → ℕ → List ℕ → List ℕ → List ℕ → Known → ℕ → Type 0
+ListedBy l r words cells marks sets k q =
+    ListedTo (kinds_of l) (firsts_of l) (seconds_of l) r.starts.now r.masks.now r.count words k.room cells marks sets k.heads k.nexts k.rows q
+
+-- as many rows may be as before; row q has its cells and its mark, and the rows it leads to are listed; or there is no room for all
+-- rows of the tree
+abbrev pub RowListed : List Entry → Runs → ℕ → List ℕ → List ℕ → List ℕ → Known → Known → ℕ → Option (Unit {0}) → Type 0
+RowListed l r words cells marks sets old k q (Some u) = (k.room ≡ old.room) × ListedBy l r words cells marks sets k (q + 1)
+RowListed l r words cells marks sets old k q None = (k.room ≡ old.room) × ((X : Tree) → TreeBy l r words X → old.room < row_count X)
+
+abbrev pub AllListed : List Entry → Runs → ℕ → Room → Room → Option ℕ → Type 0
+AllListed l r words old new n = (X : Tree) → TreeBy l r words X → ListedOf X old new n

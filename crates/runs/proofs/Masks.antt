@@ -69,9 +69,6 @@ pub record Putting (old new : List ℕ) (B u : ℕ) (starts : List ℕ) (k : ℕ
   pub put : NodePut old new B u starts k
   pub rest : (i : ℕ) → k ≤ i → i < 256 → mask_at new i ≡ mask_at old i
 
-pub putting-none : (masks : List ℕ) (B u : ℕ) (starts : List ℕ) → Putting masks masks B u starts 0
-putting-none masks B u starts = record { put = record { long = refl; masks = λ i l. absurd (omega arith) }; rest = λ i l m. refl }
-
 module _ {old new : List ℕ} {B u : ℕ} {starts : List ℕ} {k : ℕ} (P : Putting old new B u starts k) (l : k < 256) where
   -- mask k becomes what it is to be
   abbrev Set : List ℕ → Type 0

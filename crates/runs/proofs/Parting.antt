@@ -161,27 +161,6 @@ pub record RunsTo (parted starts : List ℕ) (runs b : ℕ) : Type 0 where
   pub rises : (k : ℕ) → k < runs → (get_or starts k 0 < get_or starts (k + 1) 0) × (get_or starts (k + 1) 0 ≤ b)
   pub whole : Whole parted starts runs
 
-pub runs-one : (parted starts : List ℕ) → length starts ≡ 257 → get_or starts 0 0 ≡ 0 → RunsTo parted (set starts 1 1) 1 1
-runs-one parted starts long first = record {
-  long = length-set starts 1 1 ∙ long;
-  some = omega arith;
-  few = omega arith;
-  first = at-0;
-  last = at_1;
-  rises = λ k l. let e : k ≡ 0 = omega arith in rw e (omega (arith, at-0, at_1), omega (arith, at_1));
-  whole = λ k b l m n. let e : k ≡ 0 = omega arith in absurd (omega (arith, at-0, at_1, rw e at m, rw e at n));
-}
-  where
-    at-0 : get_or (set starts 1 1) 0 0 ≡ 0
-    at-0 = get_or-set_other starts 1 0 1 0 (omega arith) ∙ first
-
-    at_1 : get_or (set starts 1 1) 1 0 ≡ 1
-    at_1 = get_or-set_same starts 1 1 0 (omega arith)
-
--- the length of the list as it is, the end of the last run not yet put in
-pub runs-long : (parted starts : List ℕ) (runs b : ℕ) → RunsTo parted (set starts runs b) runs b → length starts ≡ 257
-runs-long parted starts runs b R = sym (length-set starts runs b) ∙ R.long
-
 module _ {parted starts : List ℕ} {runs b : ℕ} (R : RunsTo parted starts runs b) (l : b < 256) where
   -- byte b begins a run
   pub runs-next : RunsTo parted (set starts (runs + 1) (b + 1)) (runs + 1) (b + 1)
@@ -235,9 +214,6 @@ module _ {parted starts : List ℕ} {runs b : ℕ} (R : RunsTo parted starts run
       whole k c lk lc hc (yes e) (yes f) = rw f n
       whole k c lk lc hc (yes e) (no f) = R.whole k c lk lc (rw (e, R.last) (omega (arith, rw (e, end) at hc)))
       whole k c lk lc hc (no ne) d = R.whole k c lk lc (rw (old (k + 1) (omega arith)) at hc)
-
-pub runs-all : {parted starts : List ℕ} {runs : ℕ} → RunsTo parted starts runs 256 → Starts starts runs × Whole parted starts runs
-runs-all R = (record { long = R.long; few = R.few; first = R.first; last = R.last; rises = R.rises }, R.whole)
 
 -- ---- a set that has one byte of a run has them all
 

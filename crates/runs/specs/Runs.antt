@@ -4,6 +4,8 @@ use Rattle.rules.specs.Tools.{has, with}
 use Rattle.rules.specs.Sizes.{nodes_most, words_a_row}
 use Rattle.sets.specs.Sets.{member}
 use Rattle.program.specs.Program.{atom_bytes, AtomAt}
+use Rattle.entries.specs.Entries.{kinds_of, atoms_of}
+use Rattle.entries.specs.declared.Entry.{Entry}
 use Rattle.nodesets.specs.NodeSets.{mask_of, row_words}
 
 -- each node with an edge on bytes names an atom of the program
@@ -11,6 +13,9 @@ pub record Atoms (program kind atom : List ℕ) : Type 0 where
   pub few : length kind ≤ nodes_most
   pub long : length atom ≡ length kind
   pub are : (u : ℕ) → u < length kind → get_or kind u 0 ≡ 4 → AtomAt program (get_or atom u 0)
+
+abbrev pub AtomsIn : List ℕ → List Entry → Type 0
+AtomsIn program l = Atoms program (kinds_of l) (atoms_of l)
 
 -- an edge of node u is crossed on byte b
 abbrev pub Crosses : List ℕ → List ℕ → List ℕ → ℕ → ℕ → Type 0
@@ -31,7 +36,8 @@ InRun starts k b = (get_or starts k 0 ≤ b) × (b < get_or starts (k + 1) 0)
 -- there are so many runs, and a node's atom has the bytes of a run, all or none
 pub record PartedInto (program kind atom starts : List ℕ) (runs : ℕ) : Type 0 where
   pub are : Starts starts runs
-  pub alike : (k b u : ℕ) → k < runs → InRun starts k b → u < length kind → get_or kind u 0 ≡ 4 → has (atom_bytes program (get_or atom u 0)) (get_or starts k 0) ≡ has (atom_bytes program (get_or atom u 0)) b
+  pub alike : (k b u : ℕ) → k < runs → InRun starts k b → u < length kind → get_or kind u 0 ≡ 4
+      → has (atom_bytes program (get_or atom u 0)) (get_or starts k 0) ≡ has (atom_bytes program (get_or atom u 0)) b
 
 -- there are so many runs; mask k, in any number of words that is wide enough, has the nodes whose edge is crossed on the bytes of run k
 pub record Runs (program kind atom starts masks : List ℕ) (runs : ℕ) : Type 0 where

@@ -4,10 +4,11 @@
 ghost use Rattle.std.specs.Prelude.{◌≡◌, ◌*◌, ◌≤◌, ◌<◌, length, get_or, replicate};
 ghost use Rattle.rules.specs.Sizes.{nodes_most, words_a_row};
 ghost use Rattle.bytesets.specs.ByteSets.{bytes_of};
-ghost use Rattle.runs.specs.Runs.{Atoms, Starts, PartedInto, Runs, Changes, PartedBy, PartedTo, Whole, NodePut};
+ghost use Rattle.entries.specs.Entries.{kinds_of, atoms_of};
+ghost use Rattle.runs.specs.Runs.{AtomsIn, Starts, PartedInto, Runs, Changes, PartedBy, PartedTo, Whole, NodePut};
 
 use bytesets::ByteSet;
-use entries::BYTES;
+use entries::{Entry, Kind};
 use kinds::{Node, WORDS_A_ROW};
 use nodesets::put_in;
 use program::atom_set;
@@ -26,23 +27,21 @@ fn part_by(parted: &mut [u64], set: ByteSet)
     requires { length parted.old ≡ 4 }
     ensures { PartedBy parted.old parted.new (bytes_of set) }
 {
-    parted[0] = parted[0] | changes(set.0, 0);
-    parted[1] = parted[1] | changes(set.1, set.0 / TOP_BIT);
-    parted[2] = parted[2] | changes(set.2, set.1 / TOP_BIT);
-    parted[3] = parted[3] | changes(set.3, set.2 / TOP_BIT);
+    parted[0] |= changes(set.0, 0);
+    parted[1] |= changes(set.1, set.0 / TOP_BIT);
+    parted[2] |= changes(set.2, set.1 / TOP_BIT);
+    parted[3] |= changes(set.3, set.2 / TOP_BIT);
 }
 
 // Marks each byte that some node's atom parts from the byte before it.
-fn part_bytes(parted: &mut [u64], program: &[u64], kind: &[u8], atom: &[u16])
-    requires { (length parted.old ≡ 4) × Atoms program.now kind.now atom.now }
-    ensures { (length parted.new ≡ 4) × PartedTo (length kind.now) program.now kind.now atom.now parted.new }
+fn part_bytes(parted: &mut [u64], program: &[u64], nodes: &[Entry])
+    requires { (length parted.old ≡ 4) × AtomsIn program.now nodes.now }
+    ensures { (length parted.new ≡ 4) × PartedTo (length nodes.now) program.now (kinds_of nodes.now) (atoms_of nodes.now) parted.new }
 {
-    let mut u: usize = 0;
-    while u < kind.len() {
-        if kind[u] == BYTES {
-            part_by(parted, atom_set(program, atom[u] as usize));
+    for entry in nodes {
+        if entry.kind == Kind::Bytes {
+            part_by(parted, atom_set(program, entry.atom as usize));
         }
-        u += 1;
     }
 }
 
@@ -52,13 +51,11 @@ fn list_runs(starts: &mut [u16], parted: &[u64]) -> usize
     ensures { Starts starts.new result × Whole parted.now starts.new result }
 {
     let mut k: usize = 1;
-    let mut b: usize = 1;
-    while b < 256 {
+    for b in 1..256 {
         if sets::test(parted, b) {
             starts[k] = b as u16;
             k += 1;
         }
-        b += 1;
     }
     starts[k] = 256;
     k
@@ -69,52 +66,34 @@ fn put_node(masks: &mut [u64], set: ByteSet, u: Node, starts: &[u16], runs: usiz
     requires { (words_a_row * runs ≤ length masks.old) × ((u.0 < nodes_most) × Starts starts.now runs) }
     ensures { NodePut masks.old masks.new (bytes_of set) u.0 starts.now runs }
 {
-    let mut k: usize = 0;
-    while k < runs {
+    for k in 0..runs {
         if set.has(starts[k] as u8) {
-            put_in(
-                &mut masks[WORDS_A_ROW * k..WORDS_A_ROW * k + WORDS_A_ROW],
-                u,
-            );
+            let at = WORDS_A_ROW * k;
+            put_in(&mut masks[at..at + WORDS_A_ROW], u);
         }
-        k += 1;
     }
 }
 
 // The masks of the runs; they are all 0 before.
-pub fn put_nodes(
-    masks: &mut [u64],
-    program: &[u64],
-    kind: &[u8],
-    atom: &[u16],
-    starts: &[u16],
-    runs: usize,
-)
+pub fn put_nodes(masks: &mut [u64], program: &[u64], nodes: &[Entry], starts: &[u16], runs: usize)
     requires { (masks.old ≡ replicate (length masks.old) 0)
-        × ((words_a_row * runs ≤ length masks.old) × (Atoms program.now kind.now atom.now × PartedInto program.now kind.now atom.now starts.now runs)) }
-    ensures { Runs program.now kind.now atom.now starts.now masks.new runs }
+        × ((words_a_row * runs ≤ length masks.old) × (AtomsIn program.now nodes.now × PartedInto program.now (kinds_of nodes.now) (atoms_of nodes.now) starts.now runs)) }
+    ensures { Runs program.now (kinds_of nodes.now) (atoms_of nodes.now) starts.now masks.new runs }
 {
-    let mut u: usize = 0;
-    while u < kind.len() {
-        if kind[u] == BYTES {
-            put_node(
-                masks,
-                atom_set(program, atom[u] as usize),
-                Node(u as u16),
-                starts,
-                runs,
-            );
+    for (u, entry) in nodes.iter().enumerate() {
+        if entry.kind == Kind::Bytes {
+            let set = atom_set(program, entry.atom as usize);
+            put_node(masks, set, Node(u as u16), starts, runs);
         }
-        u += 1;
     }
 }
 
 // The number of runs; `starts` is all 0 before.
-pub fn make_runs(starts: &mut [u16], program: &[u64], kind: &[u8], atom: &[u16]) -> usize
-    requires { (starts.old ≡ replicate 257 0) × Atoms program.now kind.now atom.now }
-    ensures { PartedInto program.now kind.now atom.now starts.new result }
+pub fn make_runs(starts: &mut [u16], program: &[u64], nodes: &[Entry]) -> usize
+    requires { (starts.old ≡ replicate 257 0) × AtomsIn program.now nodes.now }
+    ensures { PartedInto program.now (kinds_of nodes.now) (atoms_of nodes.now) starts.new result }
 {
     let mut parted = [0u64; 4];
-    part_bytes(&mut parted, program, kind, atom);
+    part_bytes(&mut parted, program, nodes);
     list_runs(starts, &parted)
 }

@@ -6,9 +6,8 @@ ghost use Rattle.io.specs.Counts.{IsPrefixLen};
 ghost use Rattle.findings.specs.Said.{comparison_most};
 ghost use Rattle.comparing.specs.Comparison.{comparison};
 
-use answers::Text;
 use kinds::PATTERN_MOST;
-use streams::Input;
+use writing::whole_length;
 
 // Bytes that hold what is said.
 const ROOM: usize = 128;
@@ -19,37 +18,19 @@ fn compared(input: &[u8], out: &mut [u8]) -> usize
     ensures out_after { take result out.new ≡ comparison input.now }
     ensures prefix_len { IsPrefixLen result out.new }
 {
-    let text = comparing::write_comparison(input, out);
-    match text {
-        Text::Written(n) => n as usize,
-        Text::Longer(_) => 0,
-        Text::Refused(_) => 0,
-    }
-}
-
-// Says it on standard output.
-fn answer(output: &impl Print, error: &impl Print, input: &[u8]) {
-    let mut out = [0u8; ROOM];
-    let length = compared(input, &mut out);
-    streams::write_output(
-        output,
-        error,
-        &out[..length],
-        b"same: standard output can't be written\n",
-    );
+    whole_length(Ok(comparing::write_comparison(input, out)))
 }
 
 // The first 2,051 bytes of the input decide, however long it is (`beginning-decides`).
 fn main(rt: HostRuntime) {
     let mut input = [0u8; 2 * PATTERN_MOST + 3];
-    let read = streams::read_input(&rt, &mut input);
-    match read {
-        Input::Bytes(n) => answer(&rt.stdout(), &rt.stderr(), &input[..n]),
-        Input::Unread => {
-            streams::say(
-                &rt.stderr(),
-                b"same: expected two patterns on standard input, one a line, and no argument\n",
-            );
-        }
-    }
+    let mut out = [0u8; ROOM];
+    streams::run(
+        &rt,
+        &mut input,
+        &mut out,
+        b"same: expected two patterns on standard input, one a line, and no argument\n",
+        b"same: standard output can't be written\n",
+        compared,
+    );
 }

@@ -1,5 +1,5 @@
 -- What is in a set of words after a number, or another set, was put in.
-use mathlib.Core.Path.{◌≡◌, refl, sym, ap, ap₂, ◌∙◌}
+use mathlib.Core.Path.{◌≡◌, sym, ap, ap₂, ◌∙◌}
 use mathlib.Core.Logic.{◌≢◌}
 use mathlib.Core.Bool.{Bool, true, false, ◌||◌}
 use mathlib.Core.List.{List}
@@ -12,6 +12,7 @@ use lib.Dec.{eqb}
 use lib.ListN.{length, get_or, set, replicate, length-set, length-replicate, get_or-replicate, get_or-eq_default}
 use lib.Pow.{pow_pos, pow-lt, pow-add, shl-shr}
 use lib.Seq.{get_or-set_same, get_or-set_other}
+use Rattle.std.proofs.Math.Bool.{or-true, or-false}
 use Rattle.rules.specs.Tools.{has}
 use Rattle.rules.proofs.Sets.{has-or}
 use Rattle.sets.specs.Sets.{member, put_in, AllIn}
@@ -32,14 +33,6 @@ power-other k j ne = go (dec_lt k j)
     go : Dec (k < j) → has (2 ^ k) j ≡ false
     go (yes l) = ap (λ (n : ℕ). eqb (n % 2) 1) (div-eq_of_lt (pow-lt l))
     go (no n) = up (k - j - 1) (omega arith)
-
-or-true : (b : Bool) → (b || true) ≡ true
-or-true true = refl
-or-true false = refl
-
-or-false : (b : Bool) → (b || false) ≡ b
-or-false true = refl
-or-false false = refl
 
 -- ---- one number put in
 
@@ -100,12 +93,9 @@ pub record Joined (ws vs : List ℕ) (start i : ℕ) (new : List ℕ) : Type 0 w
   pub done : (j : ℕ) → j < i → get_or new j 0 ≡ bit_or (get_or ws j 0) (get_or vs (start + j) 0)
   pub rest : (j : ℕ) → i ≤ j → get_or new j 0 ≡ get_or ws j 0
 
-pub joined-none : (ws vs : List ℕ) (start : ℕ) → Joined ws vs start 0 ws
-joined-none ws vs start = record { long = refl; done = λ j l. absurd (omega arith); rest = λ j l. refl }
-
 module _ {ws vs new : List ℕ} {start i : ℕ} (J : Joined ws vs start i new) where
-  pub joined-more : i < length ws → Joined ws vs start (i + 1) (set new i (bit_or (get_or new i 0) (get_or vs (start + i) 0)))
-  joined-more l = record {
+  pub joined_more : i < length ws → Joined ws vs start (i + 1) (set new i (bit_or (get_or new i 0) (get_or vs (start + i) 0)))
+  joined_more l = record {
     long = length-set new i v ∙ J.long;
     done = λ j lj. go j lj (ℕ_discrete j i);
     rest = λ j lj. get_or-set_other new i j v 0 (omega arith) ∙ J.rest j (omega arith);
@@ -119,9 +109,9 @@ module _ {ws vs new : List ℕ} {start i : ℕ} (J : Joined ws vs start i new) w
           ∙ ap (λ (w : ℕ). bit_or w (get_or vs (start + i) 0)) (J.rest i (omega arith)) ∙ ap (λ (k : ℕ). bit_or (get_or ws k 0) (get_or vs (start + k) 0)) (sym e)
       go j lj (no n) = get_or-set_other new i j v 0 n ∙ J.done j (omega arith)
 
-  pub joined-all : length ws ≤ i → AllIn ws vs start new
+  pub joined_all : length ws ≤ i → AllIn ws vs start new
   unfolding AllIn member
-  joined-all l x lx = ap (λ (w : ℕ). has w (x % 64)) (J.done (x / 64) (omega arith))
+  joined_all l x lx = ap (λ (w : ℕ). has w (x % 64)) (J.done (x / 64) (omega arith))
       ∙ has-or (get_or ws (x / 64) 0) (get_or vs (start + x / 64) 0) (x % 64)
       ∙ ap₂ (λ (i k : ℕ). has (get_or ws (x / 64) 0) (x % 64) || has (get_or vs i 0) k) word bit
     where

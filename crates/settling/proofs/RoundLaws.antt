@@ -1,9 +1,9 @@
 -- What a round does, and what rounds lead to.
-use mathlib.Core.Path.{◌≡◌, refl, sym, ap, ◌∙◌, subst}
+use mathlib.Core.Path.{◌≡◌, sym, ap, ◌∙◌, subst}
 use mathlib.Core.Logic.{◌⊎◌, inl, inr, ⊎_elim}
 use mathlib.Core.Bool.{true}
 use mathlib.Core.List.{List}
-use Prim.Native.Nat.{ℕ, zero, suc, ◌+◌, ◌*◌, ◌≤◌, ◌<◌}
+use Prim.Native.Nat.{ℕ, ◌+◌, ◌*◌, ◌≤◌, ◌<◌}
 use native.Mathlib.Decide.{dec_lt}
 use native.Mathlib.Omega.{arith}
 use lib.ListN.{length, get_or}
@@ -11,21 +11,20 @@ use Rattle.rules.specs.Sizes.{rows_most}
 use Rattle.rules.specs.Grid.{Grid}
 use Rattle.rules.proofs.Tests.{is_false}
 use Rattle.sets.specs.Sets.{member}
-use Rattle.columns.specs.Columns.{Columns}
-use Rattle.grid.specs.Rows.{row_words, rows_of, Rows}
+use Rattle.grid.specs.Rows.{rows_of}
 use Rattle.grid.proofs.GridLaws.{cell_in}
-use Rattle.keys.specs.Keys.{key_on, Idle, KeysAlike, Given}
+use Rattle.keys.specs.Keys.{key_on, Idle, KeysAlike}
 use Rattle.keys.proofs.KeyLaws.{key-low, idle-alike, idle-like}
 use Rattle.stretches.proofs.StretchLaws.{many-few, of_row, alone}
-use Rattle.chains.specs.Chains.{Labelled, Grouped}
+use Rattle.chains.specs.Chains.{Labelled}
 use Rattle.chains.proofs.ChainLaws.{label-cases}
 use Rattle.cutting.specs.Cutting.{Standing, CutTo}
 use Rattle.cutting.proofs.CutLaws.{cut-whole}
-use Rattle.leads.specs.Leads.{Leads, Reach, Spans, TouchedAll}
+use Rattle.leads.specs.Leads.{Leads, TouchedAll}
 use Rattle.waiting.specs.Refined.{Refined}
-use Rattle.waiting.proofs.WaitLaws.{Waiting, first, named-least}
-use Rattle.round.specs.Groups.{Sorted, Lists, Ends, Touches}
-use Rattle.settling.specs.Settling.{Drawn, Scratch, MarksTell, Settled}
+use Rattle.waiting.proofs.WaitLaws.{Waiting, named-least}
+use Rattle.round.specs.Groups.{Sorted, Ends, Touches}
+use Rattle.settling.specs.Settling.{Drawn, Settled}
 
 -- ---- one round
 
@@ -46,35 +45,6 @@ module _ {order place class start end : List ℕ} {n many : ℕ} (S : Standing o
     number = λ i l. omega (arith, (of_row S.placed S.stretches i (in-class l)).0, many-few S.stretches, class-long);
     order = λ i l. S.stretches.some (get_or class i 0) (of_row S.placed S.stretches i (in-class l)).0;
   }
-
-  pub to-spans : Spans order start end many
-  to-spans = record {
-    start-long = omega (arith, many-few S.stretches, S.stretches.start-long);
-    end-long = omega (arith, many-few S.stretches, S.stretches.end-long);
-    inside = λ z l. omega (arith, S.stretches.inside z l, S.stretches.order-long);
-  }
-
-  pub to-reach : {cells bytes preds : List ℕ} → Drawn cells bytes preds n → n ≡ length order → Reach order preds
-  to-reach {preds = preds} D e = record {
-    few = omega (arith, S.placed.few);
-    row = λ p l. omega (arith, S.placed.row p (omega (arith, l)));
-    long = D.preds-long ∙ ap (λ (x : ℕ). row_words * x) e;
-  }
-
-  pub to-given : {cells bytes preds : List ℕ} → Drawn cells bytes preds n → Given cells class bytes
-  to-given {cells} {bytes} D = record {
-    rows = subst (Rows cells) (sym class-long) D.rows;
-    columns = subst (Columns cells bytes) (sym class-long) D.columns;
-  }
-
-  module _ {seen prior last firsts links touched : List ℕ} (X : Scratch seen prior last firsts links touched n) where
-    pub to-lists : Lists class seen prior last
-    to-lists = record {
-      few = omega (arith, S.placed.few, class-long);
-      seen-long = X.seen-long ∙ sym class-long;
-      prior-long = X.prior-long ∙ sym class-long;
-      last-long = X.last-long ∙ sym class-long;
-    }
 
   module _ {cells bytes preds : List ℕ} (touched : List ℕ) {from : ℕ} (D : Drawn cells bytes preds n) (T : TouchedAll order start end preds touched from many) where
     pub touches : Touches cells class touched from
@@ -105,10 +75,6 @@ module _ {order place class start end : List ℕ} {n many : ℕ} (S : Standing o
     pub labelled : Labelled B.label class seen prior last n B.count groups
     labelled = subst (λ (x : ℕ). Labelled B.label class seen prior last x B.count groups) class-long B.labelled
 
-    -- labels for the classes as they are
-    pub to-grouped : Grouped class seen prior last n groups
-    to-grouped = record { label = B.label; count = B.count; labelled = labelled }
-
   module _ {cells class' seen prior last : List ℕ} {from groups m : ℕ} (B : Sorted cells class start end seen prior last from groups) (C : CutTo B.label class class' n groups many m) where
     -- a row of no group that is not alone in its class is idle
     idle-or : (i j : ℕ) → i < n → j < n → get_or class i 0 ≡ get_or class j 0 → get_or B.label i 0 ≡ n → Idle cells class from i ⊎ (j ≡ i)
@@ -133,7 +99,8 @@ module _ {order place class start end : List ℕ} {n many : ℕ} (S : Standing o
             (idle-or i j li lj were q)
 
     -- a row of a group goes otherwise than one of none
-    mixed-off : (i j : ℕ) → i < n → j < n → get_or class i 0 ≡ get_or class j 0 → KeysAlike cells class from i j → get_or B.label i 0 < groups → get_or B.label j 0 ≡ n → get_or B.label i 0 ≡ get_or B.label j 0
+    mixed-off : (i j : ℕ) → i < n → j < n → get_or class i 0 ≡ get_or class j 0 → KeysAlike cells class from i j → get_or B.label i 0 < groups → get_or B.label j 0 ≡ n
+        → get_or B.label i 0 ≡ get_or B.label j 0
     mixed-off i j li lj e k l q = ⊎_elim
         (λ x. absurd (B.busy i (on-class li) l (idle-like cells class from j i (λ b lb. sym (k b lb)) x)))
         (λ x. ap (λ (z : ℕ). get_or B.label z 0) x)
@@ -151,14 +118,6 @@ module _ {order place class start end : List ℕ} {n many : ℕ} (S : Standing o
 -- ---- at first and at the end
 
 module _ (cells : List ℕ) {marks : List ℕ} (n : ℕ) (G : Grid (rows_of cells n) marks) where
-  -- classes by marks, of which the first has the number 0
-  pub first-waiting : {class : List ℕ} → length class ≡ n → MarksTell marks class n → Waiting cells n G 1 class
-  first-waiting {class} long M = first cells n G long M.like M.fair (λ i li. zero_or (get_or class i 0))
-    where
-      zero_or : (x : ℕ) → (x ≡ 0) ⊎ (1 ≤ x)
-      zero_or zero = inl refl
-      zero_or (suc x) = inr (omega arith)
-
   pub settled : {class : List ℕ} {from : ℕ} → Waiting cells n G from class → ((i : ℕ) → i < n → get_or class i 0 < from) → from ≤ n → Settled cells marks class n
   settled {class} W low few = record {
     long = W.sound.long;

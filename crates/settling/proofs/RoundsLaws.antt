@@ -1,67 +1,65 @@
 -- Rounds one after the other, until no class waits.
-use mathlib.Core.Path.{◌≡◌, sym, subst}
+use mathlib.Core.Path.{◌≡◌, ◌∙◌}
 use mathlib.Core.List.{List}
 use Prim.Native.Nat.{ℕ, ◌≤◌, ◌<◌}
 use native.Mathlib.Omega.{arith}
 use lib.ListN.{length}
 use Rattle.rules.specs.Grid.{Grid}
 use Rattle.grid.specs.Rows.{rows_of}
+use Rattle.chains.specs.Lent as chains
+use Rattle.chains.specs.declared.Groups.{Groups}
+use Rattle.stretches.specs.Lent as stretches
+use Rattle.stretches.specs.declared.Classes.{Classes}
 use Rattle.stretches.proofs.StretchLaws.{many-few, of_row}
-use Rattle.cutting.specs.Cutting.{Standing}
-use Rattle.waiting.specs.Refined.{Refined}
+use Rattle.stretches.proofs.LentLaws.{same-lists-then}
+use Rattle.cutting.specs.Lent.{Standing_in}
 use Rattle.waiting.proofs.WaitLaws.{Waiting, refined}
-use Rattle.settling.specs.Settling.{Drawn, Scratch, MarksTell, Settled}
-use Rattle.settling.proofs.RoundLaws.{first-waiting, settled}
+use Rattle.settling.specs.Settling.{MarksTell}
+use Rattle.settling.specs.Lent.{Drawn_in, Scratch_in, Refined_in, Settled_in}
+use Rattle.settling.specs.declared.Paths.{Paths}
+use Rattle.settling.proofs.RoundLaws.{settled}
 
--- n rows in `many` classes, of which those from `from` on wait; by whichever marks the classes were made at first
-pub record Rounds (cells bytes preds first order place class start end seen prior last firsts links touched : List ℕ) (n many from : ℕ) : Type 0 where
-  pub drawn : Drawn cells bytes preds n
-  pub scratch : Scratch seen prior last firsts links touched n
-  pub standing : Standing order place class start end n many
+-- the rows are in `many` classes, of which those from `from` on wait; by whichever marks the classes were made at first
+pub record Rounds (paths : Paths) (old new : Classes) (groups₀ groups : Groups) (firsts links touched : List ℕ) (many from : ℕ) : Type 0 where
+  pub same-classes : stretches.SameLists old new
+  pub same-groups : chains.SameLists groups₀ groups
+  pub drawn : Drawn_in paths (length old.order.now)
+  pub scratch : Scratch_in groups firsts links touched (length old.order.now)
+  pub standing : Standing_in new (length old.order.now) many
   pub some : 0 < from
   pub few : from ≤ many
-  pub waiting : (marks : List ℕ) (G : Grid (rows_of cells n) marks) → MarksTell marks first n → Waiting cells n G from class
-
-pub first_round : {cells bytes preds order place class start end seen prior last firsts links touched : List ℕ} {n many : ℕ} → Drawn cells bytes preds n
-    → Scratch seen prior last firsts links touched n → Standing order place class start end n many → 1 ≤ many
-    → Rounds cells bytes preds class order place class start end seen prior last firsts links touched n many 1
-first_round {cells} {n = n} D X S l = record {
-  drawn = D;
-  scratch = X;
-  standing = S;
-  some = omega arith;
-  few = l;
-  waiting = λ marks G M. first-waiting cells n G S.stretches.class-long M;
-}
+  pub waiting : (marks : List ℕ) (G : Grid (rows_of paths.cells.now (length old.order.now)) marks) → MarksTell marks old.class.now (length old.order.now)
+      → Waiting paths.cells.now (length old.order.now) G from new.class.now
 
 -- ---- one round more
 
-module _ {cells bytes preds first₀ order place class start end seen prior last firsts links touched : List ℕ} {n many from : ℕ}
-    (R : Rounds cells bytes preds first₀ order place class start end seen prior last firsts links touched n many from) where
-  length-order : length order ≡ n
-  length-order = R.standing.placed.order-long
-
-  pub to-round : (Drawn cells bytes preds (length order) × Scratch seen prior last firsts links touched (length order)) × (Standing order place class start end (length order) many × ((0 < from) × (from ≤ many)))
-  to-round = (
-    (subst (Drawn cells bytes preds) (sym length-order) R.drawn, subst (Scratch seen prior last firsts links touched) (sym length-order) R.scratch),
-    (subst (λ (x : ℕ). Standing order place class start end x many) (sym length-order) R.standing, (R.some, R.few)),
-  )
-
-  pub next-round : {order' place' class' start' end' seen' prior' last' firsts' links' touched' : List ℕ} {m : ℕ} → from < many → Standing order' place' class' start' end' (length order) m
-      → Refined cells class class' (length order) from many → many ≤ m → Scratch seen' prior' last' firsts' links' touched' n
-      → Rounds cells bytes preds first₀ order' place' class' start' end' seen' prior' last' firsts' links' touched' n m many
-  next-round {order'} {place'} {class'} {start'} {end'} {m = m} l S F more X = record {
+module _ {paths : Paths} {old new : Classes} {groups₀ groups : Groups} {firsts links touched : List ℕ} {many from : ℕ} (R : Rounds paths old new groups₀ groups firsts links touched many from) where
+  pub next-round : {new' : Classes} {groups' : Groups} {firsts' links' touched' : List ℕ} {m : ℕ} → from < many → stretches.SameLists new new' × chains.SameLists groups groups'
+      → chains.RoomFor groups' (length new.order.now) → length firsts' ≡ length firsts → length links' ≡ length links → length touched' ≡ length touched
+      → Standing_in new' (length new.order.now) m → Refined_in paths new new' from many × (many ≤ m)
+      → Rounds paths old new' groups₀ groups' firsts' links' touched' m many
+  next-round {new'} {m = m} l N X f k t S F = record {
+    same-classes = same-lists-then R.same-classes N.0;
+    same-groups = (N.1.0 ∙ R.same-groups.0, N.1.1 ∙ R.same-groups.1, N.1.2 ∙ R.same-groups.2);
     drawn = R.drawn;
-    scratch = X;
+    scratch = record {
+      seen-long = X.seen-long ∙ R.standing.placed.order-long;
+      prior-long = X.prior-long ∙ R.standing.placed.order-long;
+      last-long = X.last-long ∙ R.standing.placed.order-long;
+      firsts-long = f ∙ R.scratch.firsts-long;
+      links-long = k ∙ R.scratch.links-long;
+      touched-long = t ∙ R.scratch.touched-long;
+    };
     standing = T;
     some = omega (arith, R.some, l);
-    few = more;
-    waiting = λ marks G M. refined cells n G R.some (R.waiting marks G M) T.stretches.class-long (subst (λ (x : ℕ). Refined cells class class' x from many) length-order F);
+    few = F.1;
+    waiting = λ marks G M. refined paths.cells.now (length old.order.now) G R.some (R.waiting marks G M) T.stretches.class-long (rw R.standing.placed.order-long at F.0);
   }
     where
-      T : Standing order' place' class' start' end' n m
-      T = subst (λ (x : ℕ). Standing order' place' class' start' end' x m) length-order S
+      T : Standing_in new' (length old.order.now) m
+      T = rw R.standing.placed.order-long at S
 
   -- no class waits
-  pub all_settled : many ≤ from → (marks : List ℕ) → Grid (rows_of cells n) marks → MarksTell marks first₀ n → Settled cells marks class n
-  all_settled l marks G M = settled cells n G (R.waiting marks G M) (λ i li. omega (arith, (of_row R.standing.placed R.standing.stretches i li).0)) (omega (arith, R.few, many-few R.standing.stretches))
+  pub all_settled : many ≤ from → Settled_in paths old new (length old.order.now)
+  all_settled l marks G M = settled paths.cells.now (length old.order.now) G (R.waiting marks G M)
+      (λ i li. omega (arith, (of_row R.standing.placed R.standing.stretches i li).0)) (omega (arith, R.few, many-few R.standing.stretches))

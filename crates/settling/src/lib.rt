@@ -2,89 +2,116 @@
 // that is cut the longest part keeps its number, so that no row waits often.
 #![tactic(auto)]
 
-ghost use Rattle.std.specs.Prelude.{List, ℕ, ◌≤◌, ◌<◌, length};
-ghost use Rattle.rules.specs.Grid.{Grid};
-ghost use Rattle.grid.specs.Rows.{rows_of};
-ghost use Rattle.cutting.specs.Cutting.{Standing};
-ghost use Rattle.waiting.specs.Refined.{Refined};
-ghost use Rattle.settling.specs.Settling.{Drawn, Scratch, MarksTell, Settled};
+ghost use Rattle.std.specs.Prelude.{◌≤◌, ◌<◌, length};
+ghost use Rattle.chains.specs.Lent as chains;
+ghost use Rattle.stretches.specs.Lent as stretches;
+ghost use Rattle.cutting.specs.Lent.{Standing_in};
+ghost use Rattle.settling.specs.Lent.{Drawn_in, Scratch_in, Sorted_in, Refined_in, Settled_in};
 
+use chains::Groups;
 use cutting::cut_groups;
+use keys::Keys;
 use leads::touched;
+use stretches::Classes;
 
-// One round; how many classes there are then.
-fn cut_round(
-    cells: &[u16],
-    bytes: &[u8],
-    preds: &[u64],
-    order: &mut [u16],
-    place: &mut [u16],
-    class: &mut [u16],
-    start: &mut [u16],
-    end: &mut [u16],
-    seen: &mut [u16],
-    prior: &mut [u16],
-    last: &mut [u16],
+// Where rows lead: their cells, the first bytes of their columns, and the rows that lead to each.
+#[derive(Clone, Copy)]
+pub struct Paths<'r> {
+    pub cells: &'r [u16],
+    pub bytes: &'r [u8],
+    pub preds: &'r [u64],
+}
+
+// The rows that lead to a class that waits, in groups; how many groups there are.
+// `firsts` and `links` stay apart: two parts of a struct behind a `&mut` can't be lent on in one call.
+fn sort(
+    paths: &Paths,
+    classes: &Classes,
+    groups: &mut Groups,
     firsts: &mut [u16],
     links: &mut [u16],
     touched: &mut [u64],
     from: usize,
     many: usize,
 ) -> usize
-    requires drawn { Drawn cells.now bytes.now preds.now (length order.old) × Scratch seen.old prior.old last.old firsts.old links.old touched.old (length order.old) }
-    requires standing { Standing order.old place.old class.old start.old end.old (length order.old) many × ((0 < from) × (from ≤ many)) }
-    ensures standing_2 { Standing order.new place.new class.new start.new end.new (length order.old) result }
-    ensures refined { Refined cells.now class.old class.new (length order.old) from many × (many ≤ result) }
+    requires drawn { Drawn_in paths.now (length classes.now.order.now) }
+    requires scratch { Scratch_in groups.old firsts.old links.old touched.old (length classes.now.order.now) }
+    requires standing { Standing_in classes.now (length classes.now.order.now) many × (0 < from) × (from ≤ many) }
+    ensures same_lists { chains.SameLists groups.old groups.new }
+    ensures room { chains.RoomFor groups.new (length classes.now.order.now) }
+    ensures sorted { Sorted_in paths.now classes.now groups.new from result }
 {
-    touched::list(order, start, end, preds, from, many, touched);
-    let groups = round::sort(
-        cells,
-        class,
-        bytes,
-        from as u16,
-        start,
-        end,
+    touched::list(
+        classes.order,
+        classes.start,
+        classes.end,
+        paths.preds,
+        from,
+        many,
         touched,
-        seen,
-        prior,
-        last,
+    );
+    let keys = Keys {
+        cells: paths.cells,
+        class: classes.class,
+        bytes: paths.bytes,
+        from: from as u16,
+    };
+    round::sort(
+        &keys,
+        classes.start,
+        classes.end,
+        touched,
+        groups,
         firsts,
         links,
-    );
-    cut_groups(
-        order, place, class, start, end, seen, prior, last, groups, many,
     )
+}
+
+// One round; how many classes there are then.
+fn cut_round(
+    paths: &Paths,
+    classes: &mut Classes,
+    groups: &mut Groups,
+    firsts: &mut [u16],
+    links: &mut [u16],
+    touched: &mut [u64],
+    from: usize,
+    many: usize,
+) -> usize
+    requires drawn { Drawn_in paths.now (length classes.old.order.now) }
+    requires scratch { Scratch_in groups.old firsts.old links.old touched.old (length classes.old.order.now) }
+    requires standing { Standing_in classes.old (length classes.old.order.now) many × (0 < from) × (from ≤ many) }
+    ensures same_lists { stretches.SameLists classes.old classes.new × chains.SameLists groups.old groups.new }
+    ensures room { chains.RoomFor groups.new (length classes.old.order.now) }
+    ensures stands { Standing_in classes.new (length classes.old.order.now) result }
+    ensures refined { Refined_in paths.now classes.old classes.new from many × (many ≤ result) }
+{
+    let count = sort(paths, classes, groups, firsts, links, touched, from, many);
+    cut_groups(classes, groups, count, many)
 }
 
 // Rounds until no class waits; at first each of the `many` classes but one does.
 pub fn settle(
-    cells: &[u16],
-    bytes: &[u8],
-    preds: &[u64],
-    order: &mut [u16],
-    place: &mut [u16],
-    class: &mut [u16],
-    start: &mut [u16],
-    end: &mut [u16],
-    seen: &mut [u16],
-    prior: &mut [u16],
-    last: &mut [u16],
+    paths: &Paths,
+    classes: &mut Classes,
+    groups: &mut Groups,
     firsts: &mut [u16],
     links: &mut [u16],
     touched: &mut [u64],
     many: usize,
 )
-    requires drawn { Drawn cells.now bytes.now preds.now (length order.old) × Scratch seen.old prior.old last.old firsts.old links.old touched.old (length order.old) }
-    requires standing { Standing order.old place.old class.old start.old end.old (length order.old) many × (1 ≤ many) }
-    ensures { (marks : List ℕ) → Grid (rows_of cells.now (length order.old)) marks → MarksTell marks class.old (length order.old) → Settled cells.now marks class.new (length order.old) }
+    requires drawn { Drawn_in paths.now (length classes.old.order.now) }
+    requires scratch { Scratch_in groups.old firsts.old links.old touched.old (length classes.old.order.now) }
+    requires standing { Standing_in classes.old (length classes.old.order.now) many × (1 ≤ many) }
+    ensures same_lists { stretches.SameLists classes.old classes.new × chains.SameLists groups.old groups.new }
+    ensures room { stretches.RoomFor classes.new (length classes.old.order.now) × chains.RoomFor groups.new (length classes.old.order.now) }
+    ensures settled { Settled_in paths.now classes.old classes.new (length classes.old.order.now) }
 {
     let mut total = many;
     let mut from: usize = 1;
+    // A while: each round goes on from where the last one ended.
     while from < total {
-        let next = cut_round(
-            cells, bytes, preds, order, place, class, start, end, seen, prior, last, firsts, links,
-            touched, from, total,
-        );
+        let next = cut_round(paths, classes, groups, firsts, links, touched, from, total);
         from = total;
         total = next;
     }

@@ -1,5 +1,2 @@
-pub mod Tables
-pub mod SignLaws
-pub mod DigitLaws
 pub mod Places
 pub mod CountLaws

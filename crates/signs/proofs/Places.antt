@@ -35,13 +35,6 @@ module _ {A : Type 0} where
   pub onward : {k m : ℕ} {f g : List ℕ → Option (A × List ℕ)} {p : List ℕ} {i j : ℕ} {r : Option (A × ℕ)} → Reads k f p i r → f (drop i p) ≡ g (drop j p) → j + m ≤ i + k → Reads m g p j r
   onward {k} {m} {p = p} {i} {j} {r} h e l = record { is = h.is ∙ e; moves = farther k m p i j r h.moves l }
 
-  -- the answer taken apart
-  pub read_some : {k : ℕ} {f : List ℕ → Option (A × List ℕ)} {p : List ℕ} {i next : ℕ} {a : A} {r : Option (A × ℕ)} → Reads k f p i r → r ≡ some (a, next) → (f (drop i p) ≡ some (a, drop next p)) × (i + k ≤ next) × (next ≤ length p)
-  read_some h e = let g = rw e at h in (sym g.is, g.moves.0, g.moves.1)
-
-  pub read_none : {k : ℕ} {f : List ℕ → Option (A × List ℕ)} {p : List ℕ} {i : ℕ} {r : Option (A × ℕ)} → Reads k f p i r → r ≡ none → f (drop i p) ≡ none
-  read_none h e = let g = rw e at h in sym g.is
-
 -- ---- whether a byte stands at a place
 
 pub stands : {c : ℕ} {p : List ℕ} {i : ℕ} {r : Bool} → Found c p i r → r ≡ true → past c (drop i p) ≡ some (drop (i + 1) p)

@@ -1,31 +1,16 @@
 -- What the readers of escapes, counts and classes answer: a value and the place after it, or none.
-use Rattle.std.specs.Prelude.{◌≡◌, Bool, true, List, [], ◌∷◌, ℕ, ◌+◌, ◌≤◌, ◌<◌, length, drop}
+use Rattle.std.specs.Prelude.{◌≡◌, Bool, true, List, [], ◌∷◌, ℕ, ◌+◌, ◌≤◌, ◌<◌, length, drop, Some, None}
 use Rattle.std.proofs.Math.Option.{Option, none, some}
 use Rattle.rules.specs.Tools.{guard}
 use Rattle.rules.specs.Reader.{past}
 use Rattle.rules.specs.Tree as rules
-use Rattle.signs.specs.declared.escape.Value.{Value}
-use Rattle.signs.specs.declared.escape.Value.TheVariants.{Is, Missing}
-use Rattle.signs.specs.declared.escape.Byte.{Byte}
-use Rattle.signs.specs.declared.escape.Byte.TheVariants as byte
-use Rattle.signs.specs.declared.count.Number.{Number}
-use Rattle.signs.specs.declared.count.Number.TheVariants as number
 use Rattle.signs.specs.declared.count.Repeat.{Repeat}
 use Rattle.signs.specs.declared.count.Repeat.TheVariants.{Star, Plus, Maybe, Times, AtLeast}
-use Rattle.signs.specs.declared.count.Count.{Count}
-use Rattle.signs.specs.declared.count.Count.TheVariants as count
 
-abbrev pub value_of : Value → Option ℕ
-value_of (Is x) = some x
-value_of Missing = none
-
-abbrev pub byte_of : Byte → Option (ℕ × ℕ)
-byte_of (byte.Read b next) = some (b, next)
-byte_of byte.Bad = none
-
-abbrev pub number_of : Number → Option (ℕ × ℕ)
-number_of (number.Read n next) = some (n, next)
-number_of number.Bad = none
+-- what may be missing
+abbrev pub value_of : {A : Type 0} → Rattle.std.specs.Prelude.Option A → Option A
+value_of (Some x) = some x
+value_of None = none
 
 abbrev pub repeat_of : Repeat → rules.Repeat
 repeat_of Star = rules.star
@@ -34,9 +19,10 @@ repeat_of Maybe = rules.maybe
 repeat_of (Times m more) = rules.times m more
 repeat_of (AtLeast m) = rules.at_least m
 
-abbrev pub count_of : Count → Option (rules.Repeat × ℕ)
-count_of (count.Read k next) = some (repeat_of k, next)
-count_of count.Bad = none
+-- a repeat sign and the place after it
+abbrev pub count_of : Rattle.std.specs.Prelude.Option (Repeat × ℕ) → Option (rules.Repeat × ℕ)
+count_of (Some x) = some (repeat_of x.0, x.1)
+count_of None = none
 
 -- the place after what was read is at least k on, and not past the end
 abbrev pub Moves : {A : Type 0} → ℕ → List ℕ → ℕ → Option (A × ℕ) → Type 0

@@ -1,19 +1,12 @@
 // Counts in braces.
-ghost use Rattle.std.specs.Prelude.{◌≡◌, ◌+◌, ◌≤◌, ◌<◌, length, drop};
+ghost use Rattle.std.specs.Prelude.{◌≡◌, ◌≤◌, length, drop};
 ghost use Rattle.rules.specs.Signs as signs;
 ghost use Rattle.rules.specs.Reader.{number, count};
-ghost use Rattle.signs.specs.Answers.{value_of, number_of, count_of, first_of, Reads, Found};
+ghost use Rattle.signs.specs.Answers.{value_of, count_of, first_of, Reads, Found};
 ghost use Rattle.signs.specs.Counts.{limited, top};
 
-use crate::escape::{Value, digit};
+use crate::escape::digit;
 use kinds::COUNT_MOST;
-
-// A number that was read, and the place after it.
-#[derive(Drop)]
-pub enum Number {
-    Read(u16, usize),
-    Bad,
-}
 
 // A repeat sign.
 #[derive(Clone, Copy)]
@@ -26,96 +19,72 @@ pub enum Repeat {
     AtLeast(u16),
 }
 
-// A repeat sign that was read, and the place after it.
-#[derive(Drop)]
-pub enum Count {
-    Read(Repeat, usize),
-    Bad,
-}
-
 // Whether the byte c stands at `at`.
 pub fn stands_at(p: &[u8], at: usize, c: u8) -> bool
     ensures { Found c p.now at result }
 {
-    if p.len() <= at {
-        return false;
-    }
-    p[at] == c
+    p.get(at) == Some(&c)
 }
 
 // The digit at `at`, if one is there.
-fn digit_at(p: &[u8], at: usize) -> Value
+fn digit_at(p: &[u8], at: usize) -> Option<u8>
     ensures { value_of result ≡ first_of signs.digit (drop at p.now) }
 {
-    if p.len() <= at {
-        return Value::Missing;
-    }
-    digit(p[at])
+    digit(*p.get(at)?)
 }
 
-// A number, unless it is over the most.
-fn at_most(n: u16, next: usize) -> Number
-    ensures { number_of result ≡ limited n next }
+// A number and the place after it, unless it is over the most.
+fn at_most(n: u16, next: usize) -> Option<(u16, usize)>
+    ensures { value_of result ≡ limited n next }
 {
-    if COUNT_MOST < n {
-        return Number::Bad;
-    }
-    Number::Read(n, next)
+    (n <= COUNT_MOST).then_some((n, next))
 }
 
 // One to three digits.
-fn read_number(p: &[u8], at: usize) -> Number
+#[tactic(auto, unfolding(rules::specs::Reader::number))]
+fn read_number(p: &[u8], at: usize) -> Option<(u16, usize)>
     requires { at ≤ length p.now }
-    ensures { Reads 1 number p.now at (number_of result) }
+    ensures { Reads 1 number p.now at (value_of result) }
 {
-    match digit_at(p, at) {
-        Value::Missing => Number::Bad,
-        Value::Is(x) => match digit_at(p, at + 1) {
-            Value::Missing => at_most(x as u16, at + 1),
-            Value::Is(y) => match digit_at(p, at + 2) {
-                Value::Missing => at_most(10 * (x as u16) + y as u16, at + 2),
-                Value::Is(z) => at_most(10 * (10 * (x as u16) + y as u16) + z as u16, at + 3),
-            },
-        },
-    }
+    let x = digit_at(p, at)? as u16;
+    let Some(y) = digit_at(p, at + 1) else {
+        return at_most(x, at + 1);
+    };
+    let n = 10 * x + y as u16;
+    let Some(z) = digit_at(p, at + 2) else {
+        return at_most(n, at + 2);
+    };
+    at_most(10 * n + z as u16, at + 3)
 }
 
 // The end of `{m,}` or `{m,n}` after its comma.
-fn read_top(p: &[u8], at: usize, m: u16) -> Count
+#[tactic(auto, unfolding(crate::specs::Counts::top))]
+fn read_top(p: &[u8], at: usize, m: u16) -> Option<(Repeat, usize)>
     requires { at ≤ length p.now }
     ensures { Reads 1 (top m) p.now at (count_of result) }
 {
     if stands_at(p, at, b'}') {
-        return Count::Read(Repeat::AtLeast(m), at + 1);
+        return Some((Repeat::AtLeast(m), at + 1));
     }
-    match read_number(p, at) {
-        Number::Bad => Count::Bad,
-        Number::Read(n, next) => {
-            if stands_at(p, next, b'}') {
-                if m <= n {
-                    return Count::Read(Repeat::Times(m, n - m), next + 1);
-                }
-            }
-            Count::Bad
-        }
+    let (n, next) = read_number(p, at)?;
+    if stands_at(p, next, b'}') && m <= n {
+        return Some((Repeat::Times(m, n - m), next + 1));
     }
+    None
 }
 
-// The count whose `{` stands right before `at`.
-pub fn read_count(p: &[u8], at: usize) -> Count
+// The repeat sign of the count whose `{` stands right before `at`, and the place after it.
+#[tactic(auto, using(crate::proofs::Places::onward), unfolding(rules::specs::Reader::count, crate::specs::Counts::top))]
+pub fn read_count(p: &[u8], at: usize) -> Option<(Repeat, usize)>
     requires { at ≤ length p.now }
     ensures { Reads 1 count p.now at (count_of result) }
 {
-    match read_number(p, at) {
-        Number::Bad => Count::Bad,
-        Number::Read(m, next) => {
-            if stands_at(p, next, b'}') {
-                return Count::Read(Repeat::Times(m, 0), next + 1);
-            }
-            if stands_at(p, next, b',') {
-                return read_top(p, next + 1, m);
-            }
-            Count::Bad
-        }
+    let (m, next) = read_number(p, at)?;
+    if stands_at(p, next, b'}') {
+        return Some((Repeat::Times(m, 0), next + 1));
     }
+    if stands_at(p, next, b',') {
+        return read_top(p, next + 1, m);
+    }
+    None
 }

@@ -1,111 +1,68 @@
 // Escapes, and digits of either base.
-ghost use Rattle.std.specs.Prelude.{◌≡◌, ◌+◌, ◌≤◌, length};
+ghost use Rattle.std.specs.Prelude.{◌≡◌, ◌≤◌, length};
 ghost use Rattle.rules.specs.Signs as signs;
 ghost use Rattle.rules.specs.Reader.{hex_byte, escape};
-ghost use Rattle.signs.specs.Answers.{value_of, byte_of, Reads};
+ghost use Rattle.signs.specs.Answers.{value_of, Reads};
 
-use crate::sign::{Sign, sign_of};
+use crate::sign::Sign;
 
-// A value that a byte may have.
-#[derive(Drop)]
-pub enum Value {
-    Is(u8),
-    Missing,
-}
-
-// A byte that was read, and the place after it.
-#[derive(Drop)]
-pub enum Byte {
-    Read(u8, usize),
-    Bad,
-}
-
-fn within(lo: u8, hi: u8, c: u8) -> bool
-    ensures { result ≡ signs.within lo hi c }
-{
-    if c < lo {
-        return false;
-    }
-    c <= hi
-}
-
-pub fn digit(c: u8) -> Value
+pub fn digit(c: u8) -> Option<u8>
     ensures { value_of result ≡ signs.digit c }
 {
-    if within(b'0', b'9', c) {
-        return Value::Is(c - b'0');
+    match c {
+        b'0'..=b'9' => Some(c - b'0'),
+        _ => None,
     }
-    Value::Missing
 }
 
-// Of either case.
-fn hex_digit(c: u8) -> Value
+// A digit of base 16, of either case.
+pub fn hex_digit(c: u8) -> Option<u8>
     ensures { value_of result ≡ signs.hex_digit c }
 {
-    if within(b'0', b'9', c) {
-        return Value::Is(c - b'0');
+    match c {
+        b'0'..=b'9' => Some(c - b'0'),
+        b'A'..=b'F' => Some(c - b'A' + 10),
+        b'a'..=b'f' => Some(c - b'a' + 10),
+        _ => None,
     }
-    if within(b'A', b'F', c) {
-        return Value::Is(c - b'A' + 10);
-    }
-    if within(b'a', b'f', c) {
-        return Value::Is(c - b'a' + 10);
-    }
-    Value::Missing
 }
 
 // What the byte after a `\` stands for.
-fn after_backslash(c: u8) -> Value
+fn after_backslash(c: u8) -> Option<u8>
     ensures { value_of result ≡ signs.after_backslash c }
 {
-    match sign_of(c) {
-        Sign::Plain => match c {
-            b'-' => Value::Is(c),
-            b'n' => Value::Is(b'\n'),
-            b'r' => Value::Is(b'\r'),
-            b't' => Value::Is(b'\t'),
-            _ => Value::Missing,
-        },
-        _ => Value::Is(c),
+    if Sign::from(c) != Sign::Plain {
+        return Some(c);
+    }
+    match c {
+        b'-' => Some(c),
+        b'n' => Some(b'\n'),
+        b'r' => Some(b'\r'),
+        b't' => Some(b'\t'),
+        _ => None,
     }
 }
 
-// Two hexadecimal digits.
-fn read_hex(p: &[u8], at: usize) -> Byte
+// Two hexadecimal digits, and the place after them.
+fn read_hex(p: &[u8], at: usize) -> Option<(u8, usize)>
     requires { at ≤ length p.now }
-    ensures { Reads 1 hex_byte p.now at (byte_of result) }
+    ensures { Reads 1 hex_byte p.now at (value_of result) }
 {
-    if p.len() <= at {
-        return Byte::Bad;
-    }
-    if p.len() <= at + 1 {
-        return Byte::Bad;
-    }
-    match hex_digit(p[at]) {
-        Value::Missing => Byte::Bad,
-        Value::Is(x) => match hex_digit(p[at + 1]) {
-            Value::Missing => Byte::Bad,
-            Value::Is(y) => Byte::Read(16 * x + y, at + 2),
-        },
-    }
+    let x = hex_digit(*p.get(at)?)?;
+    let y = hex_digit(*p.get(at + 1)?)?;
+    Some((16 * x + y, at + 2))
 }
 
-// The escape whose `\` stands right before `at`.
-pub fn read_escape(p: &[u8], at: usize) -> Byte
+// The byte of the escape whose `\` stands right before `at`, and the place after it.
+#[tactic(auto, using(crate::proofs::Places::onward), unfolding(rules::specs::Reader::escape))]
+pub fn read_escape(p: &[u8], at: usize) -> Option<(u8, usize)>
     requires { at ≤ length p.now }
-    ensures { Reads 1 escape p.now at (byte_of result) }
+    ensures { Reads 1 escape p.now at (value_of result) }
 {
-    if p.len() <= at {
-        return Byte::Bad;
-    }
-    let c = p[at];
+    let c = *p.get(at)?;
     match after_backslash(c) {
-        Value::Is(b) => Byte::Read(b, at + 1),
-        Value::Missing => {
-            if c == b'x' {
-                return read_hex(p, at + 1);
-            }
-            Byte::Bad
-        }
+        Some(b) => Some((b, at + 1)),
+        None if c == b'x' => read_hex(p, at + 1),
+        None => None,
     }
 }

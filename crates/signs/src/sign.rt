@@ -3,7 +3,7 @@ ghost use Rattle.std.specs.Prelude.{◌≡◌};
 ghost use Rattle.rules.specs.Signs.{sign};
 ghost use Rattle.signs.specs.Signs.{sign_of};
 
-#[derive(Drop)]
+#[derive(Clone, Copy, PartialEq, Eq)]
 pub enum Sign {
     Plain,
     Dot,
@@ -22,24 +22,26 @@ pub enum Sign {
     Backslash,
 }
 
-pub fn sign_of(c: u8) -> Sign
-    ensures { sign_of result ≡ sign c }
-{
-    match c {
-        b'.' => Sign::Dot,
-        b'[' => Sign::OpensClass,
-        b']' => Sign::ClosesClass,
-        b'(' => Sign::OpensGroup,
-        b')' => Sign::ClosesGroup,
-        b'|' => Sign::Bar,
-        b'*' => Sign::Star,
-        b'+' => Sign::Plus,
-        b'?' => Sign::Query,
-        b'{' => Sign::OpensCount,
-        b'}' => Sign::ClosesCount,
-        b'^' => Sign::Hat,
-        b'$' => Sign::Dollar,
-        b'\\' => Sign::Backslash,
-        _ => Sign::Plain,
+impl From<u8> for Sign {
+    ghost from_gives = { λ c s. sign_of s ≡ sign c };
+
+    fn from(c: u8) -> Sign {
+        match c {
+            b'.' => Sign::Dot,
+            b'[' => Sign::OpensClass,
+            b']' => Sign::ClosesClass,
+            b'(' => Sign::OpensGroup,
+            b')' => Sign::ClosesGroup,
+            b'|' => Sign::Bar,
+            b'*' => Sign::Star,
+            b'+' => Sign::Plus,
+            b'?' => Sign::Query,
+            b'{' => Sign::OpensCount,
+            b'}' => Sign::ClosesCount,
+            b'^' => Sign::Hat,
+            b'$' => Sign::Dollar,
+            b'\\' => Sign::Backslash,
+            _ => Sign::Plain,
+        }
     }
 }

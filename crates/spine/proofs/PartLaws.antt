@@ -1,16 +1,14 @@
 -- A part of the program, seen by its last operation.
 use mathlib.Core.Path.{◌≡◌, refl, sym, ap, subst, subst⁻¹}
 use mathlib.Core.Bool.{false, true≢false}
-use mathlib.Core.List.{List, [], ◌∷◌}
+use mathlib.Core.List.{List}
 use Prim.Native.Nat.{ℕ, suc, ◌-◌, ◌≤◌, ◌<◌}
 use native.Mathlib.Omega.{arith}
 use lib.ListN.{length}
-use types.Run.{OneOf, miss}
-use denote.Enum.Declared.{tag_of}
-use Rattle.program.specs.contracts.Op.{the_type}
 use Rattle.rules.specs.Tree.{Tree, nothing, bytes, head, tail, in_row, either, repeated}
 use Rattle.rules.specs.Nodes.{empty, on_head, on_tail, on_bytes, Frag, one, joined, forked, repeatedly, frag}
 use Rattle.signs.specs.Answers.{repeat_of}
+use Rattle.signs.specs.declared.count.Repeat.{Repeat}
 use Rattle.program.specs.Program.{Pair, Program, operation_at, atom_words, atom_bytes, AtomAt}
 use Rattle.program.specs.declared.Op.{Op}
 use Rattle.program.specs.declared.Op.TheVariants.{Nothing, Head, Tail, Dot, Class, Byte, InRow, Either, Repeated}
@@ -116,21 +114,19 @@ pub shaped : (p : List ℕ) (e : ℕ) {o : Op} → e ≤ length p → operation_
 shaped p e w q h =
     subst (Shape p (frag h.tree) (e - 1)) q (shape p (e - 1) (omega (arith, nonempty h)) h.tree h.start e h.is (omega (arith, nonempty h)))
 
--- an atom, by the tag of its operation
-pub leaf-shaped : (p : List ℕ) (e : ℕ) (o : Op) → e ≤ length p → operation_at p (e - 1) ≡ o → OneOf (3 ∷ 4 ∷ 5 ∷ 6 ∷ 7 ∷ []) (tag_of the_type o) → (joint o).two ≡ false
-    → (h : Part p e) → Leaf p (frag h.tree) (e - 1)
-leaf-shaped p e o w q t b h = go o t b (shaped p e w q h)
+-- an atom, by what its operation is not
+pub leaf-shaped : (p : List ℕ) (e : ℕ) (o : Op) → e ≤ length p → operation_at p (e - 1) ≡ o → (o ≡ Nothing → ⊥) → (o ≡ Head → ⊥) → (o ≡ Tail → ⊥)
+    → ((k : Repeat) → o ≡ Repeated k → ⊥) → (joint o).two ≡ false → (h : Part p e) → Leaf p (frag h.tree) (e - 1)
+leaf-shaped p e o w q n₁ n₂ n₃ n₄ b h = go o n₁ n₂ n₃ n₄ b (shaped p e w q h)
   where
-    ks : List ℕ
-    ks = 3 ∷ 4 ∷ 5 ∷ 6 ∷ 7 ∷ []
-
-    go : (o : Op) → OneOf ks (tag_of the_type o) → (joint o).two ≡ false → Shape p (frag h.tree) (e - 1) o → Leaf p (frag h.tree) (e - 1)
-    go Nothing t b s = absurd (miss ks 0 tt t)
-    go Head t b s = absurd (miss ks 1 tt t)
-    go Tail t b s = absurd (miss ks 2 tt t)
-    go Dot t b s = s
-    go Class t b s = s
-    go (Byte n) t b s = s
-    go (InRow n) t b s = absurd (true≢false b)
-    go (Either n) t b s = absurd (true≢false b)
-    go (Repeated k) t b s = absurd (miss ks 8 tt t)
+    go : (o : Op) → (o ≡ Nothing → ⊥) → (o ≡ Head → ⊥) → (o ≡ Tail → ⊥) → ((k : Repeat) → o ≡ Repeated k → ⊥) → (joint o).two ≡ false
+        → Shape p (frag h.tree) (e - 1) o → Leaf p (frag h.tree) (e - 1)
+    go Nothing n₁ n₂ n₃ n₄ b s = absurd (n₁ refl)
+    go Head n₁ n₂ n₃ n₄ b s = absurd (n₂ refl)
+    go Tail n₁ n₂ n₃ n₄ b s = absurd (n₃ refl)
+    go Dot n₁ n₂ n₃ n₄ b s = s
+    go Class n₁ n₂ n₃ n₄ b s = s
+    go (Byte n) n₁ n₂ n₃ n₄ b s = s
+    go (InRow n) n₁ n₂ n₃ n₄ b s = absurd (true≢false b)
+    go (Either n) n₁ n₂ n₃ n₄ b s = absurd (true≢false b)
+    go (Repeated k) n₁ n₂ n₃ n₄ b s = absurd (n₄ k refl)

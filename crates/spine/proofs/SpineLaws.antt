@@ -1,47 +1,20 @@
 -- Rows and choices by their operations, and the way down to a left part.
 use mathlib.Core.Path.{◌≡◌, refl, sym, ◌∙◌, subst}
-use mathlib.Core.Bool.{true, false, true≢false}
-use mathlib.Core.List.{List, [], ◌∷◌, ◌++◌}
+use mathlib.Core.Bool.{true, true≢false}
+use mathlib.Core.List.{List, ◌++◌}
 use Prim.Native.Nat.{ℕ, zero, suc, ◌+◌, ◌-◌, ◌≤◌, ◌<◌}
 use native.Mathlib.Numerals.{add-one}
 use native.Mathlib.Omega.{arith}
 use lib.ListN.{length, get_or, set, take, drop, length-take, get_or-append}
 use lib.Seq.{get_or-set_same, get_or-set_other, get_or-take}
 use borrow.Rule.Slice.PartMut.{put_mid}
-use types.Run.{OneOf, miss}
-use denote.Enum.Declared.{tag_of}
-use Rattle.program.specs.contracts.Op.{the_type}
-use Rattle.rules.specs.Nodes.{Frag, size, forked, frag}
+use Rattle.rules.specs.Nodes.{Frag, size, frag}
 use Rattle.program.specs.Program.{operation_at}
 use Rattle.program.specs.declared.Op.{Op}
 use Rattle.program.specs.declared.Op.TheVariants.{Nothing, Head, Tail, Dot, Class, Byte, InRow, Either, Repeated}
 use Rattle.spine.specs.Parts.{Part}
 use Rattle.spine.specs.Spine.{joint, Splits, Down}
 use Rattle.spine.proofs.PartLaws.{Shape, shape}
-
--- ---- by the tag of an operation
-
-pub no-two : (o : Op) → OneOf (0 ∷ 1 ∷ 2 ∷ 3 ∷ 4 ∷ 5 ∷ 8 ∷ []) (tag_of the_type o) → (joint o).two ≡ false
-no-two Nothing t = refl
-no-two Head t = refl
-no-two Tail t = refl
-no-two Dot t = refl
-no-two Class t = refl
-no-two (Byte b) t = refl
-no-two (InRow n) t = absurd (miss (0 ∷ 1 ∷ 2 ∷ 3 ∷ 4 ∷ 5 ∷ 8 ∷ []) 6 tt t)
-no-two (Either n) t = absurd (miss (0 ∷ 1 ∷ 2 ∷ 3 ∷ 4 ∷ 5 ∷ 8 ∷ []) 7 tt t)
-no-two (Repeated k) t = refl
-
-pub no_row : (o : Op) → OneOf (0 ∷ 1 ∷ 2 ∷ 3 ∷ 4 ∷ 5 ∷ 7 ∷ 8 ∷ []) (tag_of the_type o) → ((joint o).before ≡ 1) × ((joint o).makes ≡ forked)
-no_row Nothing t = (refl, refl)
-no_row Head t = (refl, refl)
-no_row Tail t = (refl, refl)
-no_row Dot t = (refl, refl)
-no_row Class t = (refl, refl)
-no_row (Byte b) t = (refl, refl)
-no_row (InRow n) t = absurd (miss (0 ∷ 1 ∷ 2 ∷ 3 ∷ 4 ∷ 5 ∷ 7 ∷ 8 ∷ []) 6 tt t)
-no_row (Either n) t = (refl, refl)
-no_row (Repeated k) t = (refl, refl)
 
 -- ---- a row or a choice
 

@@ -1,11 +1,10 @@
 -- The way from a part down its left parts, by the rows and choices that are passed.
-use Rattle.std.specs.Prelude.{◌≡◌, Bool, true, false, List, ℕ, zero, suc, ◌+◌, ◌-◌, get_or}
+use Rattle.std.specs.Prelude.{◌≡◌, Bool, true, false, List, ℕ, zero, suc, ◌+◌, ◌-◌, get_or, Option, Some, None}
+use Rattle.kinds.specs.declared.Node.{Node}
 use Rattle.rules.specs.Nodes.{Frag, joined, forked}
 use Rattle.program.specs.Program.{operation_at}
 use Rattle.program.specs.declared.Op.{Op}
 use Rattle.program.specs.declared.Op.TheVariants.{Nothing, Head, Tail, Dot, Class, Byte, InRow, Either, Repeated}
-use Rattle.spine.specs.declared.Left.{Left}
-use Rattle.spine.specs.declared.Left.TheVariants.{Part, None}
 
 -- What an operation is to two parts; of one that is no row and no choice only that is asked.
 pub record Joint : Type 0 where
@@ -34,8 +33,8 @@ pub record Splits (o : Op) (i b d a : ℕ) : Type 0 where
   pub ends : d ≡ i - (joint o).right
   pub starts : a ≡ b + (joint o).before
 
-abbrev pub LeftOf : Op → ℕ → ℕ → Left → Type 0
-LeftOf o i b (Part d a) = Splits o i b d a.0
+abbrev pub LeftOf : Op → ℕ → ℕ → Option (ℕ × Node) → Type 0
+LeftOf o i b (Some p) = Splits o i b p.0 p.1.0
 LeftOf o i b None = (joint o).two ≡ false
 
 -- From the part that ends at e and starts at b, past the operations at the first k places of the spine s, one comes to the part that

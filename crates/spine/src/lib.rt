@@ -8,24 +8,18 @@ ghost use Rattle.spine.specs.Parts.{Part};
 ghost use Rattle.spine.specs.Spine.{joint, LeftOf, Down};
 
 use kinds::Node;
-use program::{Op, operation};
+use program::Op;
 
-// The left part of a row or of a choice: its end and its start node.
-#[derive(Drop)]
-enum Left {
-    Part(usize, Node),
-    None,
-}
-
-// The left part under the operation at i, where `base` is the start node of both: a choice's comes after S.
-fn left_of(op: Op, i: usize, base: Node) -> Left
+// The left part under the operation at i, by its end and its start node; `base` is the start node of both, and a choice's left part
+// comes after S.
+fn left_of(op: Op, i: usize, base: Node) -> Option<(usize, Node)>
     requires { ((joint op).two ≡ true → (joint op).right ≤ i) × (base.0 + 1 < 2 ^ 16) }
     ensures { LeftOf op i base.0 result }
 {
     match op {
-        Op::InRow(right) => Left::Part(i - right as usize, base),
-        Op::Either(right) => Left::Part(i - right as usize, Node(base.0 + 1)),
-        _ => Left::None,
+        Op::InRow(right) => Some((i - right as usize, base)),
+        Op::Either(right) => Some((i - right as usize, Node(base.0 + 1))),
+        _ => None,
     }
 }
 
@@ -51,28 +45,22 @@ pub struct Bottom {
 // From the part that ends at `end` and starts at `base` down to one that is no row and no choice.
 pub fn descend(program: &[u64], end: usize, spine: &mut [u16], base: Node) -> Bottom
     requires { Part program.now end × (end ≤ length program.now) × (end ≤ length spine.old) × (end ≤ program_most) × (base.0 < nodes_most) }
-    ensures { Down program.now spine.new result.passed end base.0 result.end result.start.0
-        × ((joint (operation_at program.now (result.end - 1))).two ≡ false) }
+    ensures way { Down program.now spine.new result.passed end base.0 result.end result.start.0 }
+    ensures whole { (joint (operation_at program.now (result.end - 1))).two ≡ false }
+    ensures within { (1 ≤ result.end) × (result.end + result.passed ≤ end) }
 {
     let mut at = end;
     let mut start = base;
-    let mut passed: usize = 0;
-    'down: loop {
-        let i = at - 1;
-        match left_of(operation(program[i]), i, start) {
-            Left::None => {
-                break 'down Bottom {
-                    end: at,
-                    start,
-                    passed,
-                };
-            }
-            Left::Part(left_end, left_start) => {
-                spine[passed] = i as u16;
-                passed = passed + 1;
-                at = left_end;
-                start = left_start;
-            }
-        }
+    let mut passed = 0;
+    while let Some((left_end, left_start)) = left_of(Op::from(program[at - 1]), at - 1, start) {
+        spine[passed] = (at - 1) as u16;
+        passed += 1;
+        at = left_end;
+        start = left_start;
+    }
+    Bottom {
+        end: at,
+        start,
+        passed,
     }
 }

@@ -1,13 +1,20 @@
 -- The starts from a place on, one place down, and how many there are.
-use mathlib.Core.Path.{◌≡◌, refl, ap, sym, ◌∙◌}
+use mathlib.Core.Path.{◌≡◌, ap, sym, ◌∙◌}
 use mathlib.Core.Bool.{Bool, true, false}
 use mathlib.Core.List.{List, ◌∷◌}
 use Prim.Native.Nat.{ℕ, zero, suc, ◌+◌, ◌-◌, ◌≤◌, ◌<◌}
-use native.Mathlib.Numerals.{add-one}
 use native.Mathlib.Omega.{arith}
+use lib.Dec.{ltb}
 use lib.ListN.{length}
 use Rattle.rules.specs.Tools.{up_from, kept}
 use Rattle.rules.specs.Table.{Table, starts}
+use Rattle.rules.specs.Answers.{refused, given}
+use Rattle.rules.specs.Matchers.{few_places, listed_in, starts_found, starts_answer}
+use Rattle.table.specs.Lent.{lent_table}
+use Rattle.table.specs.declared.Lent.{Lent}
+use Rattle.table.specs.declared.checks.Checked.{Checked}
+use Rattle.ahead.specs.declared.Search.{Search}
+use Rattle.ahead.proofs.SearchLaws.{answered}
 use Rattle.ahead.specs.Ahead.{is_start, starts_from}
 use Rattle.ahead.proofs.PlaceLaws.{starts-all, starts-at}
 
@@ -33,11 +40,13 @@ module _ (w : Table) (t : List ℕ) where
   pub starts-most : length (starts w t) ≤ length t + 1
   starts-most = omega (arith, ap length (starts-all w t), starts-few 0)
 
-  -- the list grows downwards
-  pub starts-less : (s : ℕ) → s ≤ length t + 1 → length (starts_from w t s) ≤ length (starts w t)
-  starts-less zero h = omega (arith, ap length (starts-all w t))
-  starts-less (suc s) h = omega (arith, starts-less s (omega arith), step (is_start w t s) refl, sym (ap (λ (a : ℕ). length (starts_from w t a)) (add-one s)))
-    where
-      step : (b : Bool) → is_start w t s ≡ b → length (starts_from w t (s + 1)) ≤ length (starts_from w t s)
-      step true e = omega (arith, ap length (starts-at w t s true (omega arith) e))
-      step false e = omega (arith, ap length (starts-at w t s false (omega arith) e))
+-- by whether the list has a place for each start
+pub starts-answered : (s : Search) (c : Checked) {w : Lent} {t : List ℕ} → (s.table ≡ c.table) × (s.text.now ≡ c.text.now) → (c.table ≡ w) × (c.text.now ≡ t) → (l : List ℕ) (b : Bool)
+    → ltb (length l) (length (starts (lent_table s.table) s.text.now)) ≡ b
+    → listed_in l (elim b [ true ↦ refused (few_places (starts (lent_table s.table) s.text.now)) | false ↦ given (starts (lent_table s.table) s.text.now) ]) ≡ starts_answer (lent_table w) t l
+unfolding starts_answer starts_found
+starts-answered s c searched same l b e =
+    let xs = starts (lent_table s.table) s.text.now in
+    ap (listed_in l)
+    (ap (λ (b : Bool). elim b [ true ↦ refused (few_places xs) | false ↦ given xs ]) (sym e)
+    ∙ answered s c searched same (λ (w : Table) (t : List ℕ). elim (ltb (length l) (length (starts w t))) [ true ↦ refused (few_places (starts w t)) | false ↦ given (starts w t) ]))

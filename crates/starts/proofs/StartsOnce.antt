@@ -7,19 +7,19 @@ use Rattle.rules.specs.Answers.{Answer, refused, given}
 use Rattle.rules.specs.Matchers.{Listed, starts_answer}
 use Rattle.kinds.proofs.RefusalsApart.{back, back-of}
 use Rattle.answers.specs.Answers.{starts_of, listed_of}
-use Rattle.answers.specs.declared.Starts.{Starts}
-use Rattle.answers.specs.declared.Starts.TheVariants.{Refused, Count}
+use Rattle.std.specs.Prelude.{Result, Ok, Err}
+use Rattle.kinds.specs.declared.Refusal.{Refusal}
 
 -- the answer that says it
-abbrev starts-back : Answer ℕ → Starts
-starts-back (refused r) = Refused (back r)
-starts-back (given n) = Count n
+abbrev starts_back : Answer ℕ → Result ℕ Refusal
+starts_back (refused r) = Err (back r)
+starts_back (given n) = Ok n
 
-starts-back-of : (a : Starts) → starts-back (starts_of a) ≡ a
-starts-back-of (Refused r) = ap Refused (back-of r)
-starts-back-of (Count n) = refl
+starts_back-of : (a : Result ℕ Refusal) → starts_back (starts_of a) ≡ a
+starts_back-of (Err r) = ap Err (back-of r)
+starts_back-of (Ok n) = refl
 
-pub starts-once : (w : Table) (t list : List ℕ) (a b : Starts) (x y : List ℕ) → listed_of a x ≡ starts_answer w t list → listed_of b y ≡ starts_answer w t list → (a ≡ b) × (x ≡ y)
+pub starts-once : (w : Table) (t list : List ℕ) (a b : Result ℕ Refusal) (x y : List ℕ) → listed_of a x ≡ starts_answer w t list → listed_of b y ≡ starts_answer w t list → (a ≡ b) × (x ≡ y)
 starts-once w t list a b x y p q =
     let same : listed_of a x ≡ listed_of b y = p ∙ sym q in
-    (sym (starts-back-of a) ∙ ap (λ (o : Listed). starts-back o.answer) same ∙ starts-back-of b, ap (λ (o : Listed). o.list) same)
+    (sym (starts_back-of a) ∙ ap (λ (o : Listed). starts_back o.answer) same ∙ starts_back-of b, ap (λ (o : Listed). o.list) same)

@@ -1,5 +1,5 @@
 -- A class cut in two: one part keeps its number, the rows of the other take a new one.
-use mathlib.Core.Path.{◌≡◌, refl, sym, ap, ◌∙◌, subst}
+use mathlib.Core.Path.{◌≡◌, sym, ◌∙◌, subst}
 use mathlib.Core.Logic.{◌⊎◌, inl, inr, ⊎_elim, ◌≢◌}
 use mathlib.Core.List.{List}
 use Prim.Native.Nat.{ℕ, ◌+◌, ◌≤◌, ◌<◌}
@@ -9,30 +9,10 @@ use borrow.Author.Tests.{lt-ltb, le-ltb, ltb-true}
 use lib.Dec.{ltb}
 use lib.ListN.{length, get_or, set, length-set}
 use lib.Seq.{get_or-set_same, get_or-set_other}
-use Rattle.stretches.specs.Stretches.{Once, Stretches, Within, Renumbered, CutAt}
-use Rattle.stretches.proofs.ListLaws.{written}
+use Rattle.stretches.specs.Stretches.{Stretches, Within, Renumbered, CutAt}
 use Rattle.stretches.proofs.StretchLaws.{room}
 
 -- ---- rows renumbered place by place
-
-pub renumbered-none : (order class : List ℕ) (n from z : ℕ) → Renumbered order class class n from from z
-renumbered-none order class n from z = record { long = refl; new = λ p a b. absurd (omega arith); low = λ p a. refl; high = λ p a b. refl }
-
-pub renumbered-more : {order class class' : List ℕ} {from p z : ℕ} → Once order class → Renumbered order class class' (length order) from p z → from ≤ p → p < length order
-    → Renumbered order class (set class' (get_or order p 0) z) (length order) from (p + 1) z
-renumbered-more {order} {class} {class'} {from} {p} {z} O R h l = record {
-  long = length-set class' (get_or order p 0) z ∙ R.long;
-  new = λ x a b. written (λ v. v ≡ z) class' (get_or order p 0) (get_or order x 0) z (omega (arith, R.long, O.class-long, O.row p l)) (λ e. refl)
-      (λ m. R.new x a (below x b (λ e. m (ap (λ (y : ℕ). get_or order y 0) e))));
-  low = λ x a. other x (omega arith) (omega arith) ∙ R.low x a;
-  high = λ x a b. other x b (omega arith) ∙ R.high x (omega arith) b;
-}
-  where
-    below : (x : ℕ) → x < p + 1 → x ≢ p → x < p
-    below x a m = omega arith
-
-    other : (x : ℕ) → x < length order → x ≢ p → get_or (set class' (get_or order p 0) z) (get_or order x 0) 0 ≡ get_or class' (get_or order x 0) 0
-    other x lx m = get_or-set_other class' (get_or order p 0) (get_or order x 0) z 0 (λ e. m (O.once x p lx l e))
 
 -- ---- the parts of a stretch
 
@@ -279,28 +259,3 @@ module _ {order class start end : List ℕ} {n c at many : ℕ} (S : Stretches o
   pub start-cut : {class' : List ℕ} → Renumbered order class class' n (get_or start c 0) at many
       → Stretches order class' (set (set start c at) many (get_or start c 0)) (set end many at) n (many + 1) × CutAt order class class' n c at many (many + 1)
   start-cut R = (cut-stretches S W.number start-shared R, cut_at S W.number start-shared R)
-
--- ---- where a class stays whole
-
-module _ {order class start end : List ℕ} {n c at many : ℕ} (S : Stretches order class start end n many) where
-  -- rows of class c are all on one side of the place
-  uncut : ((p q : ℕ) → get_or start c 0 ≤ p → p < get_or end c 0 → get_or start c 0 ≤ q → q < get_or end c 0 → ltb p at ≡ ltb q at) → CutAt order class class n c at many many
-  uncut f = record {
-    finer = λ p q lp lq e. e;
-    parted = λ p q lp lq e h. f p q (first p lp h) (last p lp h) (first q lq (sym e ∙ h)) (last q lq (sym e ∙ h));
-    fair = λ p q lp lq e t. e;
-    new = λ p l. inl refl;
-    more = omega arith;
-  }
-    where
-      first : (p : ℕ) → p < n → of order class p ≡ c → get_or start c 0 ≤ p
-      first p l e = subst (λ (k : ℕ). get_or start k 0 ≤ p) e (S.from p l)
-
-      last : (p : ℕ) → p < n → of order class p ≡ c → p < get_or end c 0
-      last p l e = subst (λ (k : ℕ). p < get_or end k 0) e (S.to p l)
-
-  pub uncut-start : at ≡ get_or start c 0 → CutAt order class class n c at many many
-  uncut-start e = uncut (λ p q x y z w. none_below at p q (omega arith) (omega arith))
-
-  pub uncut-end : at ≡ get_or end c 0 → CutAt order class class n c at many many
-  uncut-end e = uncut (λ p q x y z w. both_below at p q (omega arith) (omega arith))

@@ -1,4 +1,3 @@
-pub mod ListLaws
-pub mod SwapLaws
 pub mod StretchLaws
 pub mod CutLaws
+pub mod LentLaws

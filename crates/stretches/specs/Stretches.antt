@@ -12,14 +12,12 @@ pub record Placed (order place : List ℕ) (n : ℕ) : Type 0 where
   pub there : (r : ℕ) → r < n → get_or order (get_or place r 0) 0 ≡ r
   pub back : (p : ℕ) → p < n → get_or place (get_or order p 0) 0 ≡ p
 
--- of n rows the first m stand in order, each of class 0
-pub record LinedUp (order place class : List ℕ) (n m : ℕ) : Type 0 where
+-- of n rows the first m stand in order
+pub record InOrder (order place : List ℕ) (n m : ℕ) : Type 0 where
   pub order-long : length order ≡ n
   pub place-long : length place ≡ n
-  pub class-long : length class ≡ n
   pub row : (p : ℕ) → p < m → get_or order p 0 ≡ p
   pub at : (r : ℕ) → r < m → get_or place r 0 ≡ r
-  pub zero : (r : ℕ) → r < m → get_or class r 0 ≡ 0
 
 -- row r went to place p, and the row that stood there to r's; no other row moved
 pub record Swapped (order place order' place' : List ℕ) (n r p : ℕ) : Type 0 where
@@ -74,6 +72,7 @@ pub record Renumbered (order class class' : List ℕ) (n from to z : ℕ) : Type
 pub record CutAt (order class class' : List ℕ) (n c at many many' : ℕ) : Type 0 where
   pub finer : (p q : ℕ) → p < n → q < n → get_or class' (get_or order p 0) 0 ≡ get_or class' (get_or order q 0) 0 → get_or class (get_or order p 0) 0 ≡ get_or class (get_or order q 0) 0
   pub parted : (p q : ℕ) → p < n → q < n → get_or class' (get_or order p 0) 0 ≡ get_or class' (get_or order q 0) 0 → get_or class (get_or order p 0) 0 ≡ c → ltb p at ≡ ltb q at
-  pub fair : (p q : ℕ) → p < n → q < n → get_or class (get_or order p 0) 0 ≡ get_or class (get_or order q 0) 0 → ltb p at ≡ ltb q at → get_or class' (get_or order p 0) 0 ≡ get_or class' (get_or order q 0) 0
+  pub fair : (p q : ℕ) → p < n → q < n → get_or class (get_or order p 0) 0 ≡ get_or class (get_or order q 0) 0 → ltb p at ≡ ltb q at
+      → get_or class' (get_or order p 0) 0 ≡ get_or class' (get_or order q 0) 0
   pub new : (p : ℕ) → p < n → (get_or class' (get_or order p 0) 0 ≡ get_or class (get_or order p 0) 0) ⊎ (many ≤ get_or class' (get_or order p 0) 0)
   pub more : many ≤ many'

@@ -3,12 +3,11 @@
 // all starts in the text.
 #![tactic(auto)]
 
-ghost use Rattle.std.specs.Prelude.{◌≡◌, ◌≤◌, length};
-ghost use Rattle.io.specs.Counts.{IsPrefixLen};
-ghost use Rattle.sums.specs.Lent.{Lent};
+ghost use Rattle.std.specs.Prelude.{◌≡◌, ◌≤◌, ◌<◌, length, IfSome};
 
-use answers::{Compiled, First, Starts, Text};
-use kinds::{Refusal, Row, WORDS_A_ROW};
+use answers::Written;
+use kinds::{Refusal, WORDS_A_ROW};
+use table::Lent;
 
 // Rows for which there is room.
 const ROWS: usize = 1024;
@@ -27,25 +26,16 @@ fn say_number(output: &impl Print, n: u32) {
 
 fn say_refusal(output: &impl Print, r: Refusal) {
     say(output, b" refused ");
-    say_number(output, kinds::number(r));
+    say_number(output, r.number());
     say(output, b" at ");
-    say_number(output, kinds::place(r));
+    say_number(output, r.place());
 }
 
-// The place of the first byte c from `from` on, or the length.
-fn find(text: &[u8], from: usize, c: u8) -> usize
-    requires { from ≤ length text.now }
-    ensures lower_bound { from ≤ result }
-    ensures prefix_len { IsPrefixLen result text.now }
+// The place of the first byte c.
+fn find(text: &[u8], c: u8) -> Option<usize>
+    ensures { IfSome result (λ n. n < length text.now) }
 {
-    let mut at = from;
-    while at < text.len() {
-        if text[at] == c {
-            return at;
-        }
-        at += 1;
-    }
-    at
+    text.iter().position(|b| *b == c)
 }
 
 // The number that the digits spell, at most `ROWS`.
@@ -53,22 +43,17 @@ fn number_of(digits: &[u8]) -> usize
     ensures { result ≤ 1024 }
 {
     let mut n: usize = 0;
-    let mut at: usize = 0;
-    while at < digits.len() {
-        n = (10 * n + (digits[at] % 16) as usize) % 10000;
-        at += 1;
+    for digit in digits {
+        n = (10 * n + (digit % 16) as usize) % 10000;
     }
-    if ROWS < n {
-        return ROWS;
-    }
-    n
+    n.min(ROWS)
 }
 
-fn say_first(output: &impl Print, rows: u16, head: Row, cells: &[u16], marks: &[u8], text: &[u8]) {
-    match first::first(rows, head, cells, marks, text) {
-        First::Refused(r) => say_refusal(output, r),
-        First::Nothing => say(output, b" no match"),
-        First::Match(start, end) => {
+fn say_first(output: &impl Print, table: &Lent<'_>, text: &[u8]) {
+    match first::first(table, text) {
+        Err(r) => say_refusal(output, r),
+        Ok(None) => say(output, b" no match"),
+        Ok(Some((start, end))) => {
             say(output, b" first ");
             say_number(output, start);
             say(output, b" to ");
@@ -77,178 +62,115 @@ fn say_first(output: &impl Print, rows: u16, head: Row, cells: &[u16], marks: &[
     }
 }
 
-fn say_list(output: &impl Print, list: &[u32], count: u32) {
-    let mut i: usize = 0;
-    while i < list.len() {
-        if i < count as usize {
-            say(output, b" ");
-            say_number(output, list[i]);
-        }
-        i += 1;
-    }
-}
-
-fn say_starts(output: &impl Print, rows: u16, head: Row, cells: &[u16], marks: &[u8], text: &[u8]) {
+fn say_starts(output: &impl Print, table: &Lent<'_>, text: &[u8]) {
     let mut list = [0u32; PLACES];
-    match starts::starts(rows, head, cells, marks, text, &mut list) {
-        Starts::Refused(r) => say_refusal(output, r),
-        Starts::Count(n) => {
+    match starts::starts(table, text, &mut list) {
+        Err(r) => say_refusal(output, r),
+        Ok(count) => {
             say(output, b" starts");
-            say_list(output, &list, n);
-        }
-    }
-}
-
-// The listing of a table: all of a small one, of another its first line.
-fn say_table(output: &impl Print, rows: u16, head: Row, cells: &[u16], marks: &[u8]) {
-    let mut out = io::buffer();
-    match listing::write_table(rows, head, cells, marks, &mut out) {
-        Text::Refused(r) => say_refusal(output, r),
-        Text::Written(n) => {
-            let end = io::count(n as isize, &out);
-            say(output, &out[..end]);
-        }
-        Text::Longer(_) => {
-            let end = find(&out, 0, b'\n');
-            say(output, &out[..end]);
-            say(output, b"\n");
-        }
-    }
-}
-
-fn say_matches(
-    output: &impl Print,
-    rows: u16,
-    head: Row,
-    cells: &[u16],
-    marks: &[u8],
-    text: &[u8],
-) {
-    say(output, text);
-    say(output, b":");
-    say_first(output, rows, head, cells, marks, text);
-    say_starts(output, rows, head, cells, marks, text);
-    say(output, b"\n");
-}
-
-// The table of a pattern in the lent room, and what it matches in the text after a tab.
-fn work(
-    output: &impl Print,
-    pattern: &[u8],
-    tabbed: &[u8],
-    cells: &mut [u16],
-    marks: &mut [u8],
-    sets: &mut [u64],
-) {
-    match compile::compile(pattern, cells, marks, sets) {
-        Compiled::Refused(r) => {
-            say_refusal(output, r);
-            say(output, b"\n");
-        }
-        Compiled::Table(rows, head) => {
-            say(output, b" ");
-            say_table(output, rows, head, cells, marks);
-            if 0 < tabbed.len() {
-                say_matches(output, rows, head, cells, marks, &tabbed[1..]);
+            for start in list.iter().take(count as usize) {
+                say(output, b" ");
+                say_number(output, *start);
             }
         }
     }
 }
 
-// The same in room for so many rows.
-fn work_within(
+// The listing of a table: all of a small one, of another its first line.
+fn say_table(output: &impl Print, table: &Lent<'_>) {
+    let mut out = io::buffer();
+    match listing::write_table(table, &mut out) {
+        Err(r) => say_refusal(output, r),
+        Ok(Written::Whole(n)) => say(output, &out[..out.len().min(n as usize)]),
+        Ok(Written::Beginning(_)) => {
+            let end = find(&out, b'\n').unwrap_or(out.len());
+            say(output, &out[..end]);
+            say(output, b"\n");
+        }
+    }
+}
+
+fn say_matches(output: &impl Print, table: &Lent<'_>, text: &[u8]) {
+    say(output, text);
+    say(output, b":");
+    say_first(output, table, text);
+    say_starts(output, table, text);
+    say(output, b"\n");
+}
+
+// The table of a pattern in the lent room, and what it matches in the text.
+fn work(
     output: &impl Print,
-    room: usize,
     pattern: &[u8],
-    tabbed: &[u8],
+    text: Option<&[u8]>,
     cells: &mut [u16],
     marks: &mut [u8],
     sets: &mut [u64],
-)
-    requires room_bound { room ≤ 1024 }
-    requires lent { Lent cells.old marks.old sets.old }
-{
-    work(
-        output,
-        pattern,
-        tabbed,
-        &mut cells[..256 * room],
-        &mut marks[..room],
-        &mut sets[..WORDS_A_ROW * room],
-    );
+) {
+    match compile::compile(pattern, cells, marks, sets) {
+        Err(r) => {
+            say_refusal(output, r);
+            say(output, b"\n");
+        }
+        Ok(drawn) => {
+            let table = Lent {
+                rows: drawn.rows,
+                head: drawn.head,
+                cells,
+                marks,
+            };
+            say(output, b" ");
+            say_table(output, &table);
+            if let Some(text) = text {
+                say_matches(output, &table, text);
+            }
+        }
+    }
 }
 
-// One sum.
+// One sum: what stands ahead of the first space, from there to the tab, and after the tab.
 fn work_line(
     output: &impl Print,
     line: &[u8],
-    cells: &mut [u16],
-    marks: &mut [u8],
-    sets: &mut [u64],
-)
-    requires { Lent cells.old marks.old sets.old }
-{
+    cells: &mut [u16; 256 * ROWS],
+    marks: &mut [u8; ROWS],
+    sets: &mut [u64; WORDS_A_ROW * ROWS],
+) {
     say(output, line);
     say(output, b":");
-    let space = find(line, 0, b' ');
-    if line.len() <= space {
+    let Some(space) = find(line, b' ') else {
         say(output, b" no pattern\n");
         return;
-    }
-    let room = number_of(&line[..space]);
-    let tab = find(line, space + 1, b'\t');
-    work_within(
+    };
+    let rows = number_of(&line[..space]);
+    let rest = &line[space + 1..];
+    let (pattern, text) = match find(rest, b'\t') {
+        Some(tab) => (&rest[..tab], Some(&rest[tab + 1..])),
+        None => (rest, None),
+    };
+    work(
         output,
-        room,
-        &line[space + 1..tab],
-        &line[tab..],
-        cells,
-        marks,
-        sets,
+        pattern,
+        text,
+        &mut cells[..256 * rows],
+        &mut marks[..rows],
+        &mut sets[..WORDS_A_ROW * rows],
     );
-}
-
-fn work_lines(
-    output: &impl Print,
-    text: &[u8],
-    cells: &mut [u16],
-    marks: &mut [u8],
-    sets: &mut [u64],
-)
-    requires { Lent cells.old marks.old sets.old }
-{
-    let mut at: usize = 0;
-    while at < text.len() {
-        let end = find(text, at, b'\n');
-        work_line(output, &text[at..end], cells, marks, sets);
-        at = end + 1;
-    }
-}
-
-// Zeros for the room. The promises are their numbers, which lending them as slices asks.
-fn cells_room() -> [u16; 256 * ROWS]
-    ensures { 262144 ≡ length result }
-{
-    [0; 256 * ROWS]
-}
-
-fn marks_room() -> [u8; ROWS]
-    ensures { 1024 ≡ length result }
-{
-    [0; ROWS]
-}
-
-fn sets_room() -> [u64; WORDS_A_ROW * ROWS]
-    ensures { 32768 ≡ length result }
-{
-    [0; WORDS_A_ROW * ROWS]
 }
 
 fn main(rt: HostRuntime) {
     let mut text = io::large_buffer();
     let n = streams::read_most(&mut rt.reader(), &mut text);
-    let mut cells = cells_room();
-    let mut marks = marks_room();
-    let mut sets = sets_room();
-    work_lines(&rt.stdout(), &text[..n], &mut cells, &mut marks, &mut sets);
+    let mut cells = [0; 256 * ROWS];
+    let mut marks = [0; ROWS];
+    let mut sets = [0; WORDS_A_ROW * ROWS];
+    for line in text[..n].split_inclusive(|b| *b == b'\n') {
+        work_line(
+            &rt.stdout(),
+            lines::pattern_of(line),
+            &mut cells,
+            &mut marks,
+            &mut sets,
+        );
+    }
 }

@@ -1,3 +1,4 @@
 pub mod CellLaws
 pub mod StaysLaws
 pub mod SizeLaws
+pub mod CheckLaws

@@ -4,28 +4,22 @@
 ghost use Rattle.std.specs.Prelude.{◌≡◌, ◌+◌, ◌*◌, ◌-◌, ◌≤◌, leb, ltb, eqb, length, get_or};
 ghost use Rattle.rules.specs.Tools.{all};
 ghost use Rattle.rules.specs.Table.{is_mark, well_formed, fits};
-ghost use Rattle.table.specs.Lent.{table_of};
+ghost use Rattle.table.specs.Lent.{lent_table};
 ghost use Rattle.table.specs.Stays.{no_byte_leaves};
 
+pub use checks::Checked;
 use kinds::{ROWS_MOST, Row};
 
-// How far a cell lies past the last row; 0 where it does not.
-fn past(cell: u16, last: u16) -> u16
-    ensures { result ≡ cell - last }
-{
-    if last < cell { cell - last } else { 0 }
-}
+mod checks;
 
 // How far cells lie past the last row, the bits of all of them put together. No exit from the loop, and a difference in place of a
 // test, so that it runs over many cells at once.
 fn all_past(cells: &[u16], last: u16) -> u16
     ensures { eqb result 0 ≡ all (λ c. leb c last) cells.now }
 {
-    let mut far: u16 = 0;
-    let mut i: usize = 0;
-    while i < cells.len() {
-        far = far | past(cells[i], last);
-        i += 1;
+    let mut far = 0;
+    for cell in cells {
+        far |= cell.saturating_sub(last);
     }
     far
 }
@@ -35,7 +29,7 @@ fn rows_only(cells: &[u16], rows: u16) -> bool
     ensures { result ≡ all (λ c. ltb c rows) cells.now }
 {
     if rows == 0 {
-        return cells.len() == 0;
+        return cells.is_empty();
     }
     all_past(cells, rows - 1) == 0
 }
@@ -45,40 +39,48 @@ fn marks_only(marks: &[u8]) -> bool
     ensures { result ≡ all is_mark marks.now }
 {
     let mut good = true;
-    let mut i: usize = 0;
-    while i < marks.len() {
-        let m = marks[i];
-        good = good & ((m == 0) | ((m == 2) | (m == 3)));
-        i += 1;
+    for &mark in marks {
+        good &= (mark == 0) | ((mark == 2) | (mark == 3));
     }
     good
 }
 
-// What refusal 13 asks; what is lent past the first rows is not looked at.
-#[tactic(auto, using(crate::proofs::SizeLaws::many_rows))]
-pub fn well_formed(rows: u16, head: Row, cells: &[u16], marks: &[u8]) -> bool
-    ensures { result ≡ well_formed (table_of rows head.0 marks.now cells.now) }
-{
-    if rows < 1 {
-        return false;
+// A table as it is lent. What is lent past its rows is not looked at.
+#[derive(Clone, Copy)]
+pub struct Lent<'t> {
+    pub rows: u16,
+    pub head: Row,
+    pub cells: &'t [u16],
+    pub marks: &'t [u8],
+}
+
+impl Lent<'_> {
+    // What refusal 13 asks.
+    #[tactic(auto, using(crate::proofs::SizeLaws::many_rows))]
+    pub fn is_well_formed(&self) -> bool
+        ensures { result ≡ well_formed (lent_table self.now) }
+    {
+        if self.rows < 1 {
+            return false;
+        }
+        if ROWS_MOST < self.rows {
+            return false;
+        }
+        let n = self.rows as usize;
+        if self.marks.len() < n {
+            return false;
+        }
+        if self.cells.len() < 256 * n {
+            return false;
+        }
+        if self.rows <= self.head.0 {
+            return false;
+        }
+        if !rows_only(&self.cells[..256 * n], self.rows) {
+            return false;
+        }
+        marks_only(&self.marks[..n])
     }
-    if ROWS_MOST < rows {
-        return false;
-    }
-    let n = rows as usize;
-    if marks.len() < n {
-        return false;
-    }
-    if cells.len() < 256 * n {
-        return false;
-    }
-    if rows <= head.0 {
-        return false;
-    }
-    if !rows_only(&cells[..256 * n], rows) {
-        return false;
-    }
-    marks_only(&marks[..n])
 }
 
 // The row that a row goes to on a byte.
@@ -101,11 +103,9 @@ pub fn ends_here(mark: u8, at_end: bool) -> bool
 fn all_to(cells: &[u16], q: Row) -> bool
     ensures { result ≡ all (λ c. eqb c q.0) cells.now }
 {
-    let mut differing: u16 = 0;
-    let mut i: usize = 0;
-    while i < cells.len() {
-        differing = differing | (cells[i] ^ q.0);
-        i += 1;
+    let mut differing = 0;
+    for cell in cells {
+        differing |= cell ^ q.0;
     }
     differing == 0
 }
@@ -116,7 +116,7 @@ pub fn no_byte_leaves(cells: &[u16], q: Row) -> bool
     ensures { result ≡ no_byte_leaves cells.now q.0 }
 {
     let from = 256 * (q.0 as usize);
-    if cells[from] != q.0 {
+    if Row(cells[from]) != q {
         return false;
     }
     all_to(&cells[from..from + 256], q)

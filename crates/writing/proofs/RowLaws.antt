@@ -1,15 +1,13 @@
 -- Laws of rows: a row's cells as the part that is lent on, and a text for each row, one after the other.
 use mathlib.Core.Path.{◌≡◌, sym, ap, ◌∙◌}
-use mathlib.Core.List.{List, [], ◌∷◌, ◌++◌, map}
+use mathlib.Core.List.{List, [], ◌∷◌, ◌++◌, map, append-nil, append_assoc}
 use Prim.Native.Nat.{ℕ, zero, suc, ◌+◌, ◌-◌, ◌*◌, ◌≤◌, ◌<◌}
-use native.Mathlib.Nat.{sub-zero, suc-sub-suc}
+use native.Mathlib.Nat.{add-zero, zero-add, sub-zero, suc-sub-suc}
 use native.Mathlib.Numerals.{add-one}
 use native.Mathlib.Omega.{arith}
 use lib.ListN.{length, get_or, take, drop, length-take, length-drop}
 use lib.Seq.{slice, take-nil, get_or-take, get_or-drop}
 use Rattle.rules.specs.Tools.{up_from, flat}
-use Rattle.writing.specs.Writing.{Room, Writes}
-use Rattle.writing.proofs.Writings.{Left, left-all, left_less, left-none, left-room}
 
 pub part_slice : (a e : ℕ) (l : List ℕ) → take (e - a) (drop a l) ≡ slice a e l
 part_slice zero e l = ap (λ (n : ℕ). take n l) (sub-zero e)
@@ -32,33 +30,14 @@ part_at q cells i h = get_or-take (256 * q + 256 - 256 * q) (drop (256 * q) cell
 
 -- ---- a text for each row
 
-abbrev row_texts : (ℕ → List ℕ) → ℕ → ℕ → List ℕ
-row_texts f rows q = flat (map f (up_from q (rows - q)))
-
--- the texts of the rows before q are written
-pub record RowsLeft (f : ℕ → List ℕ) (rows : ℕ) (old : List ℕ) (at : ℕ) (now : List ℕ) (here q : ℕ) : Type 0 where
-  pub passed : q ≤ rows
-  pub left : Left old at (flat (map f (up_from 0 rows))) now here (row_texts f rows q)
-
-pub rows-begin : {f : ℕ → List ℕ} {rows at : ℕ} {old : List ℕ} → RowsLeft f rows old at old at 0
-rows-begin {f} {rows} {at} {old} = record { passed = omega arith; left = rw sub-zero (left-all old at (flat (map f (up_from 0 rows)))) }
-
-module _ {f : ℕ → List ℕ} {rows at here q : ℕ} {old now : List ℕ} (so_far : RowsLeft f rows old at now here q) where
-  pub rows-over : rows ≤ q → Writes old at (flat (map f (up_from 0 rows))) now here
-  rows-over h = left-none so_far.left (ap (λ (n : ℕ). flat (map f (up_from q n))) none)
-    where
-      none : rows - q ≡ 0
-      none = omega arith
-
-  module _ (h : q < rows) where
-    row-ahead : row_texts f rows q ≡ f q ++ row_texts f rows (q + 1)
-    row-ahead = ap (λ (n : ℕ). flat (map f (up_from q n))) more ∙ ap (λ (n : ℕ). f q ++ flat (map f (up_from n (rows - (q + 1))))) (sym (add-one q))
+pub rows_more : (f : ℕ → List ℕ) (count : ℕ) → flat (map f (up_from 0 (count + 1))) ≡ flat (map f (up_from 0 count)) ++ f count
+rows_more f count = rw (add-one count) (go 0 count) ∙ ap (λ (n : ℕ). flat (map f (up_from 0 count)) ++ f n) (zero-add count)
+  where
+    go : (from count : ℕ) → flat (map f (up_from from (suc count))) ≡ flat (map f (up_from from count)) ++ f (from + count)
+    go from zero = append-nil (f from) ∙ ap f (sym (add-zero from))
+    go from (suc count) =
+        ap (λ (l : List ℕ). f from ++ l) (go (suc from) count ∙ ap (λ (n : ℕ). flat (map f (up_from (suc from) count)) ++ f n) shift)
+        ∙ sym (append_assoc (f from) (flat (map f (up_from (suc from) count))) (f (from + suc count)))
       where
-        more : rows - q ≡ suc (rows - (q + 1))
-        more = omega arith
-
-    pub row_room : Room at (flat (map f (up_from 0 rows))) → Room here (f q)
-    row_room = left-room so_far.left (f q) (row_texts f rows (q + 1)) row-ahead
-
-    pub row_written : {new : List ℕ} {next : ℕ} → Writes now here (f q) new next → RowsLeft f rows old at new next (q + 1)
-    row_written w = record { passed = omega arith; left = left_less so_far.left row-ahead w }
+        shift : suc from + count ≡ from + suc count
+        shift = omega arith

@@ -10,23 +10,25 @@ use Rattle.rules.specs.Answers.{Refusal, refusal, Answer, refused, given}
 use Rattle.rules.specs.Matchers.{NotFormed}
 use Rattle.rules.proofs.TableLaws.{well-formed-test}
 use Rattle.kinds.proofs.RefusalsApart.{back, back-of}
-use Rattle.answers.specs.declared.Text.{Text}
-use Rattle.answers.specs.declared.Text.TheVariants.{Refused, Written, Longer}
+use Rattle.std.specs.Prelude.{Result, Ok, Err}
+use Rattle.kinds.specs.declared.Refusal as kinds
+use Rattle.answers.specs.declared.Written.{Written}
+use Rattle.answers.specs.declared.Written.TheVariants.{Whole, Beginning}
 use Rattle.answers.specs.Answers.{text_of}
 use Rattle.writing.specs.Texts.{Shown, shown, if_formed}
 
 -- the answer that says it
-abbrev text-back : Answer (Bool × ℕ) → Text
-text-back (refused r) = Refused (back r)
-text-back (given (true, n)) = Written n
-text-back (given (false, n)) = Longer n
+abbrev text-back : Answer (Bool × ℕ) → Result Written kinds.Refusal
+text-back (refused r) = Err (back r)
+text-back (given (true, n)) = Ok (Whole n)
+text-back (given (false, n)) = Ok (Beginning n)
 
-text-back-of : (a : Text) → text-back (text_of a) ≡ a
-text-back-of (Refused r) = ap Refused (back-of r)
-text-back-of (Written n) = refl
-text-back-of (Longer n) = refl
+text-back-of : (a : Result Written kinds.Refusal) → text-back (text_of a) ≡ a
+text-back-of (Err r) = ap Err (back-of r)
+text-back-of (Ok (Whole n)) = refl
+text-back-of (Ok (Beginning n)) = refl
 
-pub text-once : {x : Shown} (a b : Text) (new late : List ℕ) → shown a new ≡ x → shown b late ≡ x → (a ≡ b) × (new ≡ late)
+pub text-once : {x : Shown} (a b : Result Written kinds.Refusal) (new late : List ℕ) → shown a new ≡ x → shown b late ≡ x → (a ≡ b) × (new ≡ late)
 text-once a b new late p q = (
   sym (text-back-of a) ∙ ap (λ (o : Shown). text-back o.answer) (p ∙ sym q) ∙ text-back-of b,
   ap (λ (o : Shown). o.buffer) (p ∙ sym q),

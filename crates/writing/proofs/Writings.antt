@@ -5,8 +5,9 @@ use Prim.Native.Nat.{ℕ, suc, ◌+◌}
 use native.Mathlib.Nat.{add-zero}
 use native.Mathlib.Omega.{arith}
 use lib.ListN.{length, take, drop, set, length-append}
-use lib.Seq.{sets, length-sets, take-nil}
-use Rattle.writing.specs.Writing.{Room, Writes}
+use lib.Seq.{sets, take-nil}
+use Rattle.writing.specs.Writing.{Room, Writes, Puts}
+use Rattle.writing.specs.declared.Page.{Page}
 
 sets-append : (xs ys old : List ℕ) (at : ℕ) → sets old at (xs ++ ys) ≡ sets (sets old at xs) (at + length xs) ys
 sets-append [] ys old at = ap (λ (n : ℕ). sets old n ys) (sym (add-zero at))
@@ -15,39 +16,35 @@ sets-append (x ∷ xs) ys old at = sets-append xs ys (set old at x) (suc at) ∙
     shift : suc at + length xs ≡ at + suc (length xs)
     shift = omega arith
 
-pub nothing : {old : List ℕ} {at : ℕ} → Writes old at [] old at
-nothing {old} {at} = record { buffer = refl; next = sym (add-zero at) }
+pub nothing : {page : Page} → Puts page [] page
+nothing {page} = record { writes = λ _. record { buffer = refl; next = sym (add-zero page.at) }; same_reference = refl }
 
 -- one piece after another
-pub join : {old mid new xs ys : List ℕ} {at m r : ℕ} → Writes old at xs mid m → Writes mid m ys new r → Writes old at (xs ++ ys) new r
-join {old} {mid} {new} {xs} {ys} {at} {m} {r} a b = record {
-  buffer = b.buffer ∙ ap₂ (λ (l : List ℕ) (n : ℕ). sets l n ys) a.buffer a.next ∙ sym (sets-append xs ys old at);
-  next = omega (arith, length-append xs ys);
-}
+pub join : {old mid new : Page} {xs ys : List ℕ} → Puts old xs mid → Puts mid ys new → Puts old (xs ++ ys) new
+join {old} {mid} {new} {xs} {ys} a b = record { writes = both; same_reference = b.same_reference ∙ a.same_reference }
+  where
+    both : Room old.at (xs ++ ys) → Writes old.out.now old.at (xs ++ ys) new.out.now new.at
+    both room =
+        let front = a.writes (omega (arith, length-append xs ys)) in
+        let back = b.writes (omega (arith, length-append xs ys, front.next)) in
+        record {
+          buffer = back.buffer ∙ ap₂ (λ (l : List ℕ) (n : ℕ). sets l n ys) front.buffer front.next ∙ sym (sets-append xs ys old.out.now old.at);
+          next = omega (arith, length-append xs ys, front.next, back.next);
+        }
 
--- What is left to write: the rest from here on ends as the whole text does.
-pub record Left (old : List ℕ) (at : ℕ) (text now : List ℕ) (here : ℕ) (rest : List ℕ) : Type 0 where
-  pub buffer : sets now here rest ≡ sets old at text
-  pub next : here + length rest ≡ at + length text
+-- What is left to write: the rest put on the page makes the whole text.
+pub record Left (old : Page) (text : List ℕ) (now : Page) (rest : List ℕ) : Type 0 where
+  pub whole : {new : Page} → Puts now rest new → Puts old text new
 
-pub left-all : (old : List ℕ) (at : ℕ) (text : List ℕ) → Left old at text old at text
-left-all old at text = record { buffer = refl; next = refl }
+pub left-all : {page : Page} {text rest : List ℕ} → rest ≡ text → Left page text page rest
+left-all {page} e = record { whole = λ w. rw e at w }
 
-module _ {old text now rest : List ℕ} {at here : ℕ} (left : Left old at text now here rest) where
-  pub left_less : {piece more new : List ℕ} {r : ℕ} → rest ≡ piece ++ more → Writes now here piece new r → Left old at text new r more
-  left_less {piece} {more} {new} {r} e w = record {
-    buffer = ap₂ (λ (l : List ℕ) (n : ℕ). sets l n more) w.buffer w.next ∙ sym (sets-append piece more now here) ∙ ap (sets now here) (sym e) ∙ left.buffer;
-    next = omega (arith, ap length e, length-append piece more);
-  }
+module _ {old now : Page} {text rest : List ℕ} (left : Left old text now rest) where
+  pub left_less : {piece more : List ℕ} {new : Page} → rest ≡ piece ++ more → Puts now piece new → Left old text new more
+  left_less {piece} {more} e w = record { whole = λ v. left.whole (rw e (join w v)) }
 
-  pub left-none : rest ≡ [] → Writes old at text now here
-  left-none e = record { buffer = sym (ap (sets now here) e) ∙ left.buffer; next = omega (arith, ap length e) }
-
-  pub left-room : (piece more : List ℕ) → rest ≡ piece ++ more → Room at text → Room here piece
-  left-room piece more e fits = omega (arith, ap length e, length-append piece more)
-
-  pub left-length : length now ≡ length old
-  left-length = sym (length-sets now here rest) ∙ ap length left.buffer ∙ length-sets old at text
+  pub left-none : rest ≡ [] → Puts old text now
+  left-none e = left.whole (rw e nothing)
 
 -- ---- from the buffer's start on
 

@@ -1,3 +1,4 @@
 pub mod Writing
 pub mod Runs
+pub mod RunsLeft
 pub mod Texts

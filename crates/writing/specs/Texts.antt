@@ -1,15 +1,16 @@
 -- What the entry points hand back, and what then stands in the buffer.
-use Rattle.std.specs.Prelude.{Bool, true, false, List, ◌++◌, ℕ, leb, length, take, drop}
+use Rattle.std.specs.Prelude.{Bool, true, false, List, ◌++◌, ℕ, Result, leb, length, take, drop}
 use Rattle.rules.specs.Answers.{Answer, refused, given, refusal}
 use Rattle.rules.specs.Table.{Table, well_formed}
-use Rattle.answers.specs.declared.Text.{Text}
+use Rattle.kinds.specs.declared.Refusal.{Refusal}
+use Rattle.answers.specs.declared.Written.{Written}
 use Rattle.answers.specs.Answers.{text_of}
 
 pub record Shown : Type 0 where
   pub answer : Answer (Bool × ℕ)
   pub buffer : List ℕ
 
-abbrev pub shown : Text → List ℕ → Shown
+abbrev pub shown : Result Written Refusal → List ℕ → Shown
 shown r new = record { answer = text_of r; buffer = new }
 
 -- a refusal leaves the buffer as it was; a text is written from its start on, as far as the buffer reaches, and what is past the text is as it was

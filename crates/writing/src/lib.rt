@@ -1,75 +1,84 @@
-// Texts of a table, piece by piece, written into a lent buffer from a place on. What is past the buffer's end is only counted.
+// Texts of a table, piece by piece, written into a lent buffer. What is past the buffer's end is only counted.
 #![tactic(auto)]
 
-ghost use Rattle.std.specs.Prelude.{◌≡◌, [], ◌∷◌, ◌^◌, ◌<◌, leb, length};
+ghost use Rattle.std.specs.Prelude.{◌≡◌, true, ℕ, [], ◌∷◌, ◌+◌, ◌^◌, ◌<◌, ◌-◌, leb, length};
 ghost use Rattle.rules.specs.Answers.{given};
 ghost use Rattle.rules.specs.Listing.{decimal};
-ghost use Rattle.writing.specs.Writing.{Room, Writes};
+ghost use Rattle.writing.specs.Writing.{Puts};
 ghost use Rattle.writing.specs.Runs.{RunEnds};
-ghost use Rattle.answers.specs.Answers.{text_of};
+ghost use Rattle.answers.specs.Answers.{written_of, text_of};
 
-use answers::Text;
+use answers::Written;
+use kinds::Refusal;
 
-// One byte.
-pub fn put(out: &mut [u8], at: usize, b: u8) -> usize
-    requires { Room at (b ∷ []) }
-    ensures { Writes out.old at (b ∷ []) out.new result }
-{
-    if at < out.len() {
-        out[at] = b;
-    }
-    at + 1
+pub mod runs;
+
+// A lent buffer, and the place that the next byte goes to.
+#[derive(Drop)]
+pub struct Page<'b> {
+    pub out: &'b mut [u8],
+    pub at: usize,
 }
 
-// The bytes of a text.
-pub fn put_all(out: &mut [u8], at: usize, text: &[u8]) -> usize
-    requires { Room at text.now }
-    ensures { Writes out.old at text.now out.new result }
-{
-    let mut here = at;
-    let mut i: usize = 0;
-    while i < text.len() {
-        here = put(out, here, text[i]);
-        i += 1;
+impl<'b> Page<'b> {
+    // At the buffer's start.
+    pub fn on(out: &'b mut [u8]) -> Page<'b>
+        ensures same_reference { result.out.ghost_name ≡ out.entry.ghost_name }
+        ensures buffer { result.out.now ≡ out.old }
+        ensures start { result.at ≡ 0 }
+    {
+        Page { out, at: 0 }
     }
-    here
-}
 
-// A number in decimal: its tenth part first, then the last digit.
-pub fn put_number(out: &mut [u8], at: usize, n: u32) -> usize
-    requires { Room at (decimal n) }
-    ensures { Writes out.old at (decimal n) out.new result }
-{
-    if n < 10 {
-        return put(out, at, 48 + n as u8);
-    }
-    let here = put_number(out, at, n / 10);
-    put(out, here, 48 + (n % 10) as u8)
-}
-
-// The last place of the longest run that begins at a place.
-pub fn run_end(cells: &[u16], lo: usize) -> usize
-    requires { lo < length cells.now }
-    ensures { RunEnds cells.now lo result }
-{
-    let to = cells[lo];
-    let mut hi = lo;
-    while hi + 1 < cells.len() {
-        if cells[hi + 1] != to {
-            return hi;
+    // One byte. The largest place stays as it is, and then nothing is promised.
+    pub fn put(&mut self, b: u8)
+        ensures { Puts self.old (b ∷ []) self.new }
+    {
+        if self.at < self.out.len() {
+            self.out[self.at] = b;
         }
-        hi += 1;
+        self.at = self.at.saturating_add(1);
     }
-    hi
+
+    // The bytes of a text.
+    pub fn put_all(&mut self, text: &[u8])
+        ensures { Puts self.old text.now self.new }
+    {
+        for b in text {
+            self.put(*b);
+        }
+    }
+
+    // A number in decimal: its tenth part first, then the last digit.
+    pub fn put_number(&mut self, n: u32)
+        ensures { Puts self.old (decimal n) self.new }
+    {
+        if 10 <= n {
+            self.put_number(n / 10);
+        }
+        self.put(b'0' + (n % 10) as u8);
+    }
+
+    // What was written of a text that began at the buffer's start.
+    pub fn written(&self) -> Written
+        requires { self.now.at < 2 ^ 32 }
+        ensures { written_of result ≡ (leb self.now.at (length self.now.out.now), self.now.at) }
+    {
+        let length = self.at as u32;
+        if self.at <= self.out.len() {
+            Written::Whole(length)
+        } else {
+            Written::Beginning(length)
+        }
+    }
 }
 
-// The answer for a text of n bytes.
-pub fn answer(n: usize, room: usize) -> Text
-    requires { n < 2 ^ 32 }
-    ensures { text_of result ≡ given (leb n room, n) }
+// How long a text is that stands whole in the buffer; 0 of any other.
+pub fn whole_length(text: Result<Written, Refusal>) -> usize
+    ensures { (n : ℕ) → text_of text ≡ given (true, n) → result ≡ n }
 {
-    if n <= room {
-        return Text::Written(n as u32);
+    match text {
+        Ok(Written::Whole(n)) => n as usize,
+        Ok(Written::Beginning(_)) | Err(_) => 0,
     }
-    Text::Longer(n as u32)
 }

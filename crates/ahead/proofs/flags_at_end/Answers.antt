@@ -1,22 +1,35 @@
-use borrow.Author.Rules.{rules}
-use mathlib.Core.Path.{refl, ap}
-use mathlib.Core.Bool.{true}
+use mathlib.Core.Path.{refl}
 use Prim.Native.Nat.{ℕ}
+use mathlib.Core.Bool.{true}
 use native.Mathlib.Omega.{arith}
-use lib.ListN.{get_or, length-set}
-use mir.Val.{bool_byte}
+use lib.ListN.{length-set}
 use Rattle.rules.specs.Table.{fits}
-use Rattle.ahead.specs.Ahead.{ahead}
+use Rattle.table.specs.Lent.{lent_table}
+use Rattle.ahead.specs.Ahead.{mark, ahead}
 use Rattle.ahead.proofs.AheadLaws.{flag-more, rest_all, rest-less}
 use Rattle.ahead.proofs.flags_at_end.Goals as goal
 
 pub loop-q-init : goal.loop-q-init
-loop-q-init c = (search rules, (refl, ((λ k l. absurd (omega arith)), rest_all)))
+loop-q-init c = record { long = refl; made = λ k l. absurd (omega arith); rest = rest_all }
+
+pub bounds-table-q : goal.bounds-table-q
+bounds-table-q c = let g = c.requires in
+    omega arith
+
+pub bounds-flags-q : goal.bounds-flags-q
+bounds-flags-q c = let g = c.requires in
+    omega arith
 
 pub loop-q-preserved : goal.loop-q-preserved
-loop-q-preserved c = let M = c.args.marks.now in
-    (search rules, (simp length-set c.loop-q.invariant.1.0, (flag-more (λ (k : ℕ). bool_byte (fits (get_or M k 0) true)) c.loop-q.flags c.loop-q.invariant.1.1.0 (search rules) (ap bool_byte c.ends_here.ensures), rest-less c.loop-q.flags _ _ c.loop-q.invariant.1.1.1)))
+loop-q-preserved c =
+    let I = c.loop-q.invariant in
+    let g = c.requires in
+    record {
+      long = simp length-set I.long;
+      made = flag-more (λ (k : ℕ). fits (mark (lent_table c.args.table.now) k) true) c.loop-q.flags I.made (omega arith) c.ends_here.ensures;
+      rest = rest-less c.loop-q.flags _ _ I.rest;
+    }
 
 pub returns : goal.returns
 unfolding ahead
-returns c = record { of = λ k l. c.loop-q.invariant.1.1.0 k (omega arith); rest = λ k l. c.loop-q.invariant.1.1.1 k (omega arith) }
+returns c = record { of = λ k l. c.loop-q.invariant.made k (omega arith); rest = λ k l. c.loop-q.invariant.rest k (omega arith) }

@@ -1,15 +1,17 @@
 use mathlib.Core.Path.{◌≡◌}
-use mathlib.Core.Bool.{true}
-use Prim.Native.Nat.{ℕ, ◌-◌, ◌≤◌, ◌<◌}
+use mathlib.Core.Bool.{true, false}
+use Prim.Native.Nat.{ℕ, ◌<◌}
 use lib.ListN.{length, get_or}
-use mir.Val.{bool_byte}
 use Rattle.rules.specs.Table.{fits}
+use Rattle.table.specs.Lent.{lent_table}
+use Rattle.ahead.specs.Ahead.{mark}
 use Rattle.ahead.proofs.AheadLaws.{Rest}
 use Rattle.ahead.proofs.flags_at_end.Given as goal
 
--- `flags_at_end`: the flags below q are set, and from q on they are still 0.
+-- the flags below q are made, and from q on none is set
 abbrev pub invariant-loop-q : goal.invariant-loop-q
-invariant-loop-q l = (l.q ≤ l.n) × ((length l.flags ≡ 1024) × (((k : ℕ) → k < l.q → get_or l.flags k 0 ≡ bool_byte (fits (get_or l.marks k 0) true)) × Rest l.flags l.q))
-
-abbrev pub decreases-loop-q : goal.decreases-loop-q
-decreases-loop-q l = l.n - l.q
+invariant-loop-q l = record {
+  long : length l.flags ≡ 1024;
+  made : (k : ℕ) → k < l.q → get_or l.flags k false ≡ fits (mark (lent_table l.table) k) true;
+  rest : Rest l.flags l.q;
+}

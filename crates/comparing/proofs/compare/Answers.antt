@@ -2,12 +2,12 @@ use mathlib.Core.Path.{◌≡◌, sym, ap, subst, ◌∙◌}
 use mathlib.Core.List.{List}
 use Prim.Native.Nat.{ℕ, ◌+◌, ◌-◌}
 use native.Mathlib.Omega.{arith}
-use lib.ListN.{length, take, drop, length-take}
+use lib.ListN.{length, take, drop}
 use Rattle.findings.specs.Lent.{said_of_finding}
 use Rattle.findings.specs.declared.Finding.{Finding}
 use Rattle.comparing.specs.Lines.{line_end_in, line_of, second_of}
 use Rattle.comparing.specs.Comparison.{said_of_lines, comparison}
-use Rattle.comparing.proofs.LineLaws.{end-within, after-end, lines_long, lines_more, lines-one}
+use Rattle.comparing.proofs.LineLaws.{after-end, lines_long, lines_more, lines-one}
 use Rattle.comparing.proofs.compare.Goals as goal
 use Rattle.comparing.proofs.compare.Goals.{Start}
 
@@ -25,10 +25,6 @@ pub returns-then-input-end : goal.returns-then-input-end
 unfolding comparison
 returns-then-input-end c =
     sym (ap said_of_lines (lines-one c.args.input.now (omega arith) (omega arith)))
-
-pub slice_bounds-compare_second-end : goal.slice_bounds-compare_second-end
-slice_bounds-compare_second-end c =
-    simp length-take (omega (arith, end-within c.args.input.now))
 
 pub returns : goal.returns
 unfolding comparison

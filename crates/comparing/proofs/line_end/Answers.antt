@@ -1,16 +1,13 @@
-use borrow.Author.Rules.{rules}
-use native.Mathlib.Omega.{arith}
-use Rattle.comparing.proofs.ByPlace.{end-here, end_later, end_none}
+use mathlib.Core.Path.{◌∙◌}
+use lib.Dec.{eqb}
+use Rattle.std.proofs.Common.{rules, tests}
+use Rattle.std.proofs.lemmas.Iterator.{YieldsList-from_slice}
+use Rattle.std.proofs.lemmas.Iterator.Search.{position_from_yields_List}
+use Rattle.comparing.proofs.LineLaws.{end-or-length}
 use Rattle.comparing.proofs.line_end.Goals as goal
-
-pub returns-then-text-at-eq10 : goal.returns-then-text-at-eq10
-returns-then-text-at-eq10 c =
-    omega (arith, end-here c.args.text.now c.loop-at.at (omega arith) c.if-text-at-eq10.true)
-
-pub loop-at-preserved : goal.loop-at-preserved
-loop-at-preserved c =
-    (search rules, omega (arith, end_later c.args.text.now c.loop-at.at (omega arith) c.if-text-at-eq10.false))
 
 pub returns : goal.returns
 returns c =
-    omega (arith, end_none c.args.text.now c.loop-at.at (omega arith))
+    c.unwrap_or.ensures
+    ∙ end-or-length c.args.text.now c.position.result
+    (position_from_yields_List (λ b. eqb b 10) _ _ c.position.result c.position.ensures.ran (YieldsList-from_slice c.args.text.now (cc)) (λ x b q k. search (rules, tests)))

@@ -4,6 +4,5 @@ use lib.ListN.{length-replicate}
 use Rattle.draw.specs.Graphs.{graph_most}
 use Rattle.draw.proofs.buffer.Goals as goal
 
--- `buffer`
 pub returns : goal.returns
 returns c = sym (length-replicate {0} {A = ℕ} graph_most 0)

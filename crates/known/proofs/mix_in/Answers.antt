@@ -5,10 +5,8 @@ use Rattle.known.proofs.mix_in.Goals as goal
 
 pub returns-then-word-eq0 : goal.returns-then-word-eq0
 returns-then-word-eq0 c =
-    let args = c.args in
-    mixed-past args.h args.i args.word c.if-word-eq0.true
+    mixed-past c.args.h c.args.i c.args.word c.if-word-eq0.true
 
 pub returns : goal.returns
 returns c =
-    let args = c.args in
-    ap (λ (z : ℕ). z + args.i * 2246822519) c.mix.ensures.0 ∙ mixed-word args.h args.i args.word c.if-word-eq0.false
+    ap (λ (z : ℕ). z + c.args.i * 2246822519) c.mix.ensures.0 ∙ mixed-word c.args.h c.args.i c.args.word c.if-word-eq0.false

@@ -3,6 +3,4 @@ use Rattle.known.proofs.store.Goals as goal
 
 pub returns : goal.returns
 returns c =
-    let args = c.args in
-    let pre = c.requires in
-    store-row args.r pre.1 pre.0 c.copy.ensures
+    store-row c.args.r c.requires.1 c.requires.0 c.copy_from_slice.ensures.after

@@ -4,13 +4,11 @@ use Rattle.writing.proofs.Answered.{written-shown}
 use Rattle.lines.proofs.LineLaws.{refused-most}
 use Rattle.lines.proofs.write_refused.Goals as goal
 
--- `write_refused` meets its contract: the line as it was written, and the answer for its length.
-pub put_refused-n-requires : goal.put_refused-n-requires
-put_refused-n-requires c = omega (arith, refused-most c.args.number c.args.place (search rules) (search rules))
-
-pub answer-requires : goal.answer-requires
-answer-requires c = omega (arith, refused-most c.args.number c.args.place (search rules) (search rules))
+pub written-requires : goal.written-requires
+written-requires c = let most = refused-most c.args.number c.args.place (search rules) (search rules) in omega (arith, c.put_refused.ensures.writes (omega arith))
 
 pub returns : goal.returns
 returns c =
-    written-shown c.answer.result c.put_refused-n.ensures c.answer.ensures
+    let most = refused-most c.args.number c.args.place (search rules) (search rules) in
+    let shown_page = rw c.on-page.ensures.buffer at (written-shown c.written.result c.on-page.ensures.start (omega arith) c.put_refused.ensures c.written.ensures) in
+    search (rules, shown_page)

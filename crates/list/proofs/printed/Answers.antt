@@ -9,24 +9,25 @@ use Rattle.writing.specs.Texts.{Shown, shown_in}
 use Rattle.listing.specs.Lines.{listing_of}
 use Rattle.listing.specs.Programs.{outcome_text}
 use Rattle.compile.specs.Outcomes.{outcome_of, Compiles}
-use Rattle.answers.specs.declared.Compiled.{Compiled}
+use Rattle.std.specs.Prelude.{Result}
+use Rattle.kinds.specs.declared.Refusal.{Refusal}
+use Rattle.answers.specs.declared.Drawn.{Drawn}
 use Rattle.compile.proofs.OutcomesOnce.{outcome-is}
 use Rattle.listing.proofs.Printed.{outcome-printed}
 use Rattle.list.proofs.printed.Goals as goal
 
--- `printed` meets its contract: what is shown of what was compiled is what is printed.
 -- what is shown of what was compiled is what is printed
-made-printed : (input old : List ℕ) {p : List ℕ} {left : Room} {r : Compiled} {x : Shown} → Compiles p (room_for listing_rows) left r → p ≡ without_line_end input
+made-printed : (input old : List ℕ) {p : List ℕ} {left : Room} {r : Result Drawn Refusal} {x : Shown} → Compiles p (room_for listing_rows) left r → p ≡ without_line_end input
     → x ≡ shown_in old (outcome_text listing_of (outcome_of r left)) → x ≡ shown_in old (given (printed input))
 made-printed input old k e h =
     h ∙ ap (λ (o : Outcome). shown_in old (outcome_text listing_of o)) (outcome-is k ∙ ap (λ (q : List ℕ). compile q (room_for listing_rows)) e) ∙ ap (shown_in old) (outcome-printed input)
 
-pub returns-in-Table : goal.returns-in-Table
+pub returns-in-Ok : goal.returns-in-Ok
 unfolding outcome_text
-returns-in-Table c =
-    made-printed c.args.input.now c.args.out.now (rw c.in-Table.is at c.compile-made.ensures) c.pattern_of-pattern.ensures.bytes c.write_table.ensures
+returns-in-Ok c =
+    made-printed c.args.input.now c.args.out.now (rw c.in-Ok.is at c.compile.ensures) c.pattern_of-pattern.ensures.bytes c.write_table.ensures
 
-pub returns-in-Refused : goal.returns-in-Refused
+pub returns-in-Err : goal.returns-in-Err
 unfolding outcome_text
-returns-in-Refused c =
-    made-printed c.args.input.now c.args.out.now (rw c.in-Refused.is at c.compile-made.ensures) c.pattern_of-pattern.ensures.bytes c.write_refusal.ensures
+returns-in-Err c =
+    made-printed c.args.input.now c.args.out.now (rw c.in-Err.is at c.compile.ensures) c.pattern_of-pattern.ensures.bytes c.write_refusal.ensures

@@ -1,36 +1,37 @@
+use borrow.Author.Rules.{rules}
 use mathlib.Core.Path.{◌≡◌, sym, ◌∙◌}
 use mathlib.Core.Bool.{true}
 use native.Mathlib.Omega.{arith}
-use borrow.Author.Tests.{not-true, not-false}
-use Rattle.rules.specs.Table.{Table, well_formed, WellFormed}
+use Rattle.rules.specs.Table.{well_formed, WellFormed}
 use Rattle.rules.proofs.TableLaws.{well-formed-test}
-use Rattle.table.specs.Lent.{table_of}
+use Rattle.table.specs.Lent.{lent_table}
 use Rattle.listing.proofs.LineLaws.{listing-most}
 use Rattle.writing.proofs.Answered.{formed-shown, unformed-shown}
 use Rattle.listing.proofs.write_table.Goals as goal
-use Rattle.listing.proofs.write_table.Goals.{Else-not-well_formed, Start}
+use Rattle.listing.proofs.write_table.Goals.{Else-not-is_well_formed}
 
-abbrev lent : Start → Table
-lent S = table_of S.args.rows S.args.head.0 S.args.marks.now S.args.cells.now
+formed : (c : Else-not-is_well_formed) → well_formed (lent_table c.args.table.now) ≡ true
+formed c = sym c.is_well_formed.ensures ∙ c.if-not-is_well_formed.false
 
-formed : (c : Else-not-well_formed) → well_formed (lent c.before.before.before.before.before.before) ≡ true
-formed c = sym c.well_formed-2.ensures ∙ not-false c.well_formed-2.result c.if-not-well_formed.false-raw
-
-good : (c : Else-not-well_formed) → WellFormed (lent c.before.before.before.before.before.before)
+good : (c : Else-not-is_well_formed) → WellFormed (lent_table c.args.table.now)
 good c = (well-formed-test _).0 (formed c)
 
-pub returns-then-not-well_formed : goal.returns-then-not-well_formed
-returns-then-not-well_formed c = unformed-shown (lent (goal.at.returns-then-not-well_formed c).Start) _ _ (sym c.well_formed-2.ensures ∙ not-true c.well_formed-2.result c.if-not-well_formed.true-raw)
+pub returns-then-not-is_well_formed : goal.returns-then-not-is_well_formed
+returns-then-not-is_well_formed c = unformed-shown (lent_table c.args.table.now) _ _ (sym c.is_well_formed.ensures ∙ c.if-not-is_well_formed.true)
 
-pub put_table-n-requires : goal.put_table-n-requires
-put_table-n-requires c =
-    let g = good (goal.at.put_table-n-requires c).Else-not-well_formed in
-    omega (arith, listing-most g)
+pub put_table-requires : goal.put_table-requires
+put_table-requires c = let f = (good (goal.at.put_table-requires c).Else-not-is_well_formed).formed in (f.marks-long, f.cells-long)
 
-pub answer-requires : goal.answer-requires
-answer-requires c =
-    let g = good (goal.at.answer-requires c).Else-not-well_formed in
-    omega (arith, listing-most g)
+pub written-requires : goal.written-requires
+written-requires c =
+    let g = good (goal.at.written-requires c).Else-not-is_well_formed in
+    let most = listing-most g in
+    omega (arith, c.put_table.ensures.writes (omega arith))
 
 pub returns : goal.returns
-returns c = formed-shown (lent (goal.at.returns c).Start) c.answer.result (formed (goal.at.returns c).Else-not-well_formed) c.put_table-n.ensures c.answer.ensures
+returns c =
+    let f = (goal.at.returns c).Else-not-is_well_formed in
+    let g = good f in
+    let most = listing-most g in
+    let shown_page = formed-shown c.written.result c.on-page.ensures.start (omega arith) c.put_table.ensures c.written.ensures _ (formed f) in
+    search (rules, rw c.on-page.ensures.buffer at shown_page)

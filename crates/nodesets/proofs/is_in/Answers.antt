@@ -3,7 +3,4 @@ use Rattle.nodesets.proofs.NodeSetLaws.{mask-has}
 use Rattle.nodesets.proofs.is_in.Goals as goal
 
 pub returns : goal.returns
-returns c =
-    let test = c.test in
-    let args = c.args in
-    c.test.ensures ∙ sym (mask-has args.set.now args.v.0)
+returns c = c.test.ensures ∙ sym (mask-has c.args.set.now c.args.v.0)

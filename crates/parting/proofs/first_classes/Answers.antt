@@ -1,21 +1,12 @@
-use mathlib.Core.Path.{◌∙◌}
-use Rattle.parting.proofs.PartLaws.{standing-at, stands, marks-grouped, marks-tell}
+use Rattle.parting.proofs.PartLaws.{begun, marks-grouped, marks-tell}
 use Rattle.parting.proofs.first_classes.Goals as goal
 
-pub cut_groups-requires : goal.cut_groups-requires
-cut_groups-requires c =
-    let T = standing-at c.begin.ensures.0 c.begin.ensures.1 c.begin.auto.order in
-    let M = c.sort-groups.ensures in
-    record {
-      standing = T;
-      grouped = marks-grouped (c.begin.auto.order ∙ c.requires.order-long) T M;
-    }
+pub cut_groups-requires-clause-grouped : goal.cut_groups-requires-clause-grouped
+cut_groups-requires-clause-grouped c =
+    let B = begun c.begin.new.self c.requires.order-long c.begin.ensures.one_class in
+    marks-grouped c.args.marks.now c.begin.new.self c.sort-count.new.groups B.0 B.1 c.sort-count.ensures.by_marks
 
-pub returns : goal.returns
-returns c =
-    let T = standing-at c.begin.ensures.0 c.begin.ensures.1 c.begin.auto.order in
-    let M = c.sort-groups.ensures in
-    record {
-      standing = stands c.cut_groups.ensures.standing_2 (c.begin.auto.order ∙ c.requires.order-long);
-      marks_tell = marks-tell (c.begin.auto.order ∙ c.requires.order-long) T M c.cut_groups.ensures.by_index;
-    }
+pub returns-clause-marks_tell : goal.returns-clause-marks_tell
+returns-clause-marks_tell c =
+    let B = begun c.begin.new.self c.requires.order-long c.begin.ensures.one_class in
+    marks-tell c.args.marks.now c.begin.new.self c.sort-count.new.groups B.0 B.1 c.sort-count.ensures.by_marks c.cut_groups.new.classes c.cut_groups.ensures.cut

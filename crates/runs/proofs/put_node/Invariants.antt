@@ -1,10 +1,6 @@
-use Prim.Native.Nat.{◌-◌, ◌≤◌}
 use Rattle.bytesets.specs.ByteSets.{bytes_of}
 use Rattle.runs.proofs.Masks.{Putting}
 use Rattle.runs.proofs.put_node.Given as goal
 
 abbrev pub invariant-loop-k : goal.invariant-loop-k
-invariant-loop-k l = (l.k ≤ l.runs) × Putting l.initial.masks l.masks (bytes_of l.set) l.u.0 l.starts l.k
-
-abbrev pub decreases-loop-k : goal.decreases-loop-k
-decreases-loop-k l = l.runs - l.k
+invariant-loop-k l = Putting l.initial.masks l.masks (bytes_of l.set) l.u.0 l.starts l.k

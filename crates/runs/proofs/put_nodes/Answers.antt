@@ -1,40 +1,54 @@
-use borrow.Author.Rules.{rules}
-use mathlib.Core.Path.{◌≡◌, ◌∙◌}
-use mathlib.Core.Logic.{⊎_elim}
+use mathlib.Core.Path.{◌≡◌, refl, sym, ◌∙◌}
+use Prim.Native.Nat.{◌<◌}
 use native.Mathlib.Omega.{arith}
 use lib.ListN.{length}
+use Rattle.entries.specs.Entries.{kinds_of, atoms_of}
+use Rattle.entries.proofs.EntryLaws.{length-kinds, get-kind, get-atom}
+use Rattle.runs.proofs.KindLaws.{is-bytes, not-bytes}
 use Rattle.runs.proofs.Masks.{masked-none, masked-in, masked-out, runs-are}
 use Rattle.runs.proofs.put_nodes.Goals as goal
+use Rattle.runs.proofs.put_nodes.Goals.{then-eq, else-eq}
 
 pub loop-u-init : goal.loop-u-init
 loop-u-init c =
-    (search rules, (search rules, masked-none c.args.program.now c.args.kind.now c.args.atom.now c.args.starts.now c.args.runs (length c.args.masks.now) c.requires.0))
+    let A = c.args in
+    record { long = refl; masked = masked-none A.program.now (kinds_of A.nodes.now) (atoms_of A.nodes.now) A.starts.now A.runs (length A.masks.now) c.requires.0 }
 
-pub overflow_cast-atom : goal.overflow_cast-atom
-overflow_cast-atom c =
-    omega (arith, c.shared_slice_known-then-kind-u-eq-BYTES-1.given c.loop-u.u)
+pub atom_set-set-requires : goal.atom_set-set-requires
+atom_set-set-requires c =
+    let l = c.args.nodes.now in
+    let u = c.loop-u.u in
+    rw (get-atom l u) at (c.requires.1.1.0.are u (omega (arith, length-kinds l)) (get-kind l u ∙ is-bytes _ c.if-eq.ensures))
 
-pub atom_set-requires : goal.atom_set-requires
-atom_set-requires c =
-    c.requires.1.1.0.are c.loop-u.u (search rules) c.if-kind-u-eq-BYTES.true
+pub overflow_cast-u : goal.overflow_cast-u
+overflow_cast-u c =
+    omega (arith, length-kinds c.args.nodes.now, c.requires.1.1.0.few)
 
 pub put_node-requires : goal.put_node-requires
 put_node-requires c =
-    (omega (arith, c.requires.1.0, c.loop-u.invariant.1.0), (omega (arith, c.requires.1.1.0.few), c.requires.1.1.1.are))
+    (omega (arith, c.requires.1.0, c.loop-u.invariant.long), (omega (arith, length-kinds c.args.nodes.now, c.requires.1.1.0.few), c.requires.1.1.1.are))
 
 pub loop-u-preserved : goal.loop-u-preserved
 loop-u-preserved c =
-    let args = c.args in
-    ⊎_elim
-    (λ x. (omega arith, rw x.masks-is (x.put_node.ensures.long ∙ c.loop-u.invariant.1.0, masked-in args.program.now args.kind.now args.atom.now args.starts.now args.runs c.loop-u.masks c.loop-u.u c.loop-u.invariant.1.1 (search rules) x.if-kind-u-eq-BYTES.true x.atom_set.ensures x.put_node.ensures)))
-    (λ x. (omega arith, rw x.masks-is (c.loop-u.invariant.1.0, masked-out args.program.now args.kind.now args.atom.now args.starts.now args.runs c.loop-u.masks c.loop-u.u c.loop-u.invariant.1.1 x.if-kind-u-eq-BYTES.false)))
-    c.if-kind-u-eq-BYTES.branch-raw
-
-pub shape_of-masks : goal.shape_of-masks
-shape_of-masks c =
-    c.loop-u.invariant.1.0
+    let l = c.args.nodes.now in
+    let u = c.loop-u.u in
+    let I = c.loop-u.invariant in
+    let low : u < length (kinds_of l) = omega (arith, length-kinds l) in
+    let A = c.args in
+    elim c.if-eq.branch [
+      | then-eq w ↦ rw w.masks-is (record {
+        long = w.put_node.ensures.long ∙ I.long;
+        masked = masked-in A.program.now (kinds_of l) (atoms_of l) A.starts.now A.runs c.loop-u.masks u I.masked low (get-kind l u ∙ is-bytes _ w.if-eq.ensures)
+            (rw (get-atom l u) w.atom_set-set.ensures) w.put_node.ensures;
+      })
+      | else-eq w ↦ rw w.masks-is (record {
+        long = I.long;
+        masked = masked-out A.program.now (kinds_of l) (atoms_of l) A.starts.now A.runs c.loop-u.masks u I.masked (λ e. not-bytes _ w.if-eq.ensures (sym (get-kind l u) ∙ e));
+      })
+    ]
 
 pub returns : goal.returns
 returns c =
-    let e : c.loop-u.u ≡ length c.args.kind.now = omega arith in
-    runs-are c.requires.1.1.1 (omega (arith, c.requires.1.0, c.loop-u.invariant.1.0)) (λ k v l. rw e at (c.loop-u.invariant.1.1 k v l))
+    let I = c.loop-u.invariant in
+    let e : c.loop-u.u ≡ length (kinds_of c.args.nodes.now) = omega (arith, length-kinds c.args.nodes.now) in
+    runs-are c.requires.1.1.1 (omega (arith, c.requires.1.0, I.long)) (λ k v l. rw e at (I.masked k v l))

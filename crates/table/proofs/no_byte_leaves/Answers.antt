@@ -4,14 +4,9 @@ use native.Mathlib.Omega.{arith}
 use lib.Dec.{eqb}
 use lib.ListN.{take, drop}
 use Rattle.rules.specs.Tools.{all}
-use Rattle.table.proofs.StaysLaws.{leaves}
 use Rattle.table.proofs.no_byte_leaves.Goals as goal
 
 -- `no_byte_leaves` meets its contract: by the first cell, or by all of them.
-pub returns-then-cells-from : goal.returns-then-cells-from
-returns-then-cells-from c =
-    leaves c.args.cells.now c.args.q.0 c.requires c.if-cells-from.true
-
 pub returns : goal.returns
 returns c =
     let A = c.args in

@@ -1,10 +1,5 @@
-use Prim.Native.Nat.{◌-◌}
-use lib.ListN.{length}
 use Rattle.merge.proofs.NumberLaws.{Down}
 use Rattle.merge.proofs.lower.move_down.Given as goal
 
 abbrev pub invariant-loop-q : goal.invariant-loop-q
 invariant-loop-q l = Down l.initial.cells l.initial.marks l.class l.number l.cells l.marks l.k l.q
-
-abbrev pub decreases-loop-q : goal.decreases-loop-q
-decreases-loop-q l = length l.class - l.q

@@ -1,36 +1,30 @@
--- The builders: at each operation of the program, the fragment of the construction. A part's end falls at each call.
-use Rattle.std.proofs.Common.{◌≡◌, ◌+◌, ◌-◌, length, sym, ◌∙◌, arith}
-use borrow.Author.Tests.{eqb-true, eqb-false}
-use borrow.Enum.Refused.{opened}
-use borrow.Rule.Slice.PartMut.{same_len_mid}
+-- The builders. In their cycle the end of the part falls at each call.
+use Rattle.std.proofs.Common.{◌≡◌, ◌+◌, ◌-◌, sym, ◌∙◌, arith, rules}
 use Rattle.rules.specs.Nodes.{frag}
 use Rattle.spine.proofs.PartLaws.{nonempty, shaped, leaf-shaped}
-use Rattle.entries.specs.Entries.{lists}
 use Rattle.nodes.proofs.BuiltLaws.{empty-built, head-built, tail-built, bytes-built, around-built}
 use Rattle.nodes.proofs.CopyLaws.{no_copies, plain_copy, extra-copy, copying-more, copying-last, copying-over, copying-full}
 use Rattle.nodes.proofs.TurnLaws.{again, lent, bottom, stands-bottom, turn, turn-over, turn-full, turn_up, stands-all}
+use Rattle.entries.specs.Entries.{pick}
 use Rattle.nodes.proofs.fragment.+building.Goals as goal
+use Rattle.nodes.proofs.fragment.+building.Goals.{build_around-then-skip, build_around-else-skip, build_around-then-back, build_around-else-back}
 
 -- build_after
-pub build_after-returns-in-To : goal.build_after-returns-in-To
-build_after-returns-in-To t c h =
-    let d = rw c.in-To.is at c.next.ensures in
-    let q : c.args.before.0 + 1 ≡ c.in-To.n.0 = omega arith in
+pub build_after-returns : goal.build_after-returns
+build_after-returns t c h =
+    let q : c.args.before.0 + 1 ≡ c.in_ok-base.base.0 = omega (arith, c.in_ok-base.ensures) in
     rw q (c.build_part.ensures h)
 
 -- build_around
-pub build_around-returns-in-To-next : goal.build_around-returns-in-To-next
-build_around-returns-in-To-next t c h =
-    let f = rw c.in-To.is at (c.build_after.ensures h) in
-    let e = rw c.in-To-next.is at c.next.ensures in
-    let s = rw (c.empties.ensures, c.picked.ensures) at c.put.ensures in
-    let x = rw (c.empties-in-To-next.ensures, c.picked-in-To-next.ensures) at c.put-in-To-next.ensures in
-    around-built c.args.program.now c.args.skip c.args.back (frag h.tree) c.args.base.0 c.in-To.n.0 c.in-To-next.e.0
-    (lists c.args.kind.now c.args.to1.now c.args.to2.now c.args.atom.now)
-    (lists c.build_after.new.kind c.build_after.new.to1 c.build_after.new.to2 c.build_after.new.atom)
-    (lists c.put.new.kind c.put.new.to1 c.put.new.to2 c.put.new.atom)
-    (lists c.put-in-To-next.new.kind c.put-in-To-next.new.to1 c.put-in-To-next.new.to2 c.put-in-To-next.new.atom)
-    f e.0 e.1 s x
+pub build_around-returns : goal.build_around-returns
+build_around-returns t c h =
+    let x = c.args.base.0 + 1 in
+    let e = c.in_ok-e.e.0 in
+    let s : c.if-skip.empties.0 ≡ pick c.args.skip e x = elim c.if-skip.branch [ build_around-then-skip w ↦ search rules | build_around-else-skip w ↦ search rules ] in
+    let b : c.if-back.empties.0 ≡ pick c.args.back x e = elim c.if-back.branch [ build_around-then-back w ↦ search rules | build_around-else-back w ↦ search rules ] in
+    around-built _ c.args.skip c.args.back (frag h.tree) _ _ _ _ _ _ _ (c.in_ok-x_end.ensures h) c.in_ok-e.ensures.0 c.in_ok-e.ensures.1
+    (rw (c.empties.ensures, s) at c.put.ensures)
+    (rw (c.empties-2.ensures, b) at c.put-2.ensures)
 
 -- build_bottom
 pub build_bottom-overflow_sub-i : goal.build_bottom-overflow_sub-i
@@ -42,190 +36,137 @@ build_bottom-bounds-program-i t c = omega (arith, c.requires.2.within, nonempty 
 pub build_bottom-build_repeat-requires : goal.build_bottom-build_repeat-requires
 build_bottom-build_repeat-requires t c =
     let r = c.requires.2 in
-    let v = shaped _ _ r.within (sym c.operation.ensures ∙ c.in-Repeated.is) r.part in
-    (omega (arith, c.decreases, nonempty r.part), (omega (arith, c.requires.1), again r (omega arith) v.part r.low r.room))
+    let v = shaped _ _ r.within (sym c.from.ensures ∙ c.in-Repeated.is) r.part in
+    (omega (arith, c.decreases, nonempty r.part), (omega (arith, c.requires.1), again r (omega arith) v.part r.low))
 
 pub build_bottom-returns-in-Nothing : goal.build_bottom-returns-in-Nothing
 build_bottom-returns-in-Nothing t c h =
-    rw (shaped _ _ c.requires.2.within (sym c.operation.ensures ∙ c.in-Nothing.is) h) (empty-built _ _ _ _ c.link.result c.link.ensures)
+    rw (shaped _ _ c.requires.2.within (sym c.from.ensures ∙ c.in-Nothing.is) h) (empty-built _ _ _ _ c.link.result c.link.ensures)
 
 pub build_bottom-returns-in-Head : goal.build_bottom-returns-in-Head
 build_bottom-returns-in-Head t c h =
-    rw (shaped _ _ c.requires.2.within (sym c.operation.ensures ∙ c.in-Head.is) h) (head-built _ _ _ _ c.link-in-Head.result c.link-in-Head.ensures)
+    rw (shaped _ _ c.requires.2.within (sym c.from.ensures ∙ c.in-Head.is) h) (head-built _ _ _ _ c.link-in-Head.result c.link-in-Head.ensures)
 
 pub build_bottom-returns-in-Tail : goal.build_bottom-returns-in-Tail
 build_bottom-returns-in-Tail t c h =
-    rw (shaped _ _ c.requires.2.within (sym c.operation.ensures ∙ c.in-Tail.is) h) (tail-built _ _ _ _ c.link-in-Tail.result c.link-in-Tail.ensures)
+    rw (shaped _ _ c.requires.2.within (sym c.from.ensures ∙ c.in-Tail.is) h) (tail-built _ _ _ _ c.link-in-Tail.result c.link-in-Tail.ensures)
 
 pub build_bottom-returns-in-Repeated : goal.build_bottom-returns-in-Repeated
 build_bottom-returns-in-Repeated t c h =
-    let v = shaped _ _ c.requires.2.within (sym c.operation.ensures ∙ c.in-Repeated.is) h in
+    let v = shaped _ _ c.requires.2.within (sym c.from.ensures ∙ c.in-Repeated.is) h in
     rw v.is (c.build_repeat.ensures v.part)
 
 pub build_bottom-returns-in_default : goal.build_bottom-returns-in_default
 build_bottom-returns-in_default t c h =
     let k = c.requires in
-    let v = leaf-shaped _ _ c.operation.result k.2.within (sym c.operation.ensures) (opened c.in_default.in_default-own.keys5) (rw c.operation.ensures k.0) h in
+    let d = c.in_default in
+    let v = leaf-shaped _ _ c.from.result k.2.within (sym c.from.ensures) d.not-Nothing d.not-Head d.not-Tail d.not-Repeated (rw c.from.ensures k.0) h in
     rw v.is (bytes-built _ _ _ _ c.link-in_default.result _ v.atom c.link-in_default.ensures)
 
 -- build_copies
 pub build_copies-returns-then-none : goal.build_copies-returns-then-none
 build_copies-returns-then-none t c h =
     let k = c.args.copies in
-    let q = eqb-true (k.plain + k.extra) 0 (sym c.none.ensures ∙ c.if-none.true) in
-    rw (no_copies k.plain k.extra c.args.back (frag h.tree) q) (empty-built _ _ _ _ c.link.result c.link.ensures)
+    rw (no_copies k.plain k.extra c.args.back (frag h.tree) (c.none.ensures.0 c.if-none.true)) (empty-built _ _ _ _ c.link.result c.link.ensures)
 
-pub build_copies-link-requires-in-To : goal.build_copies-link-requires-in-To
-build_copies-link-requires-in-To t c = let f = rw c.in-To.is at (c.build_copy.ensures c.requires.1.part) in (f.low, f.room)
-
-pub build_copies-copies-preserved : goal.build_copies-copies-preserved
-build_copies-copies-preserved t c =
-    let r = c.rest-left.result in
-    let q = eqb-false (r.plain + r.extra) 0 (sym c.none-in-To.ensures ∙ c.if-none-2.false) in
-    let w = c.copies.invariant in (
-      c.build_copy.auto.spine ∙ w.0,
-      copying-more w.1 c.rest-left.ensures (λ h. rw c.in-To.is at (c.build_copy.ensures h)) (omega arith) (rw c.in-To-link.is at c.link-in-To.ensures),
-    )
-
-pub build_copies-returns-in-TooMany : goal.build_copies-returns-in-TooMany
-build_copies-returns-in-TooMany t c h = copying-over c.copies.invariant.1 h (rw c.in-TooMany.is at (c.build_copy.ensures h))
+pub build_copies-returns-in_err-end_node : goal.build_copies-returns-in_err-end_node
+build_copies-returns-in_err-end_node t c h = rw c.from_residual.ensures (copying-over c.loop-end_node.invariant h (c.in_err-end_node.ensures h))
 
 pub build_copies-returns-then-none-2 : goal.build_copies-returns-then-none-2
 build_copies-returns-then-none-2 t c =
-    let r = c.rest-left.result in
-    let q = eqb-true (r.plain + r.extra) 0 (sym c.none-in-To.ensures ∙ c.if-none-2.true) in
-    copying-last c.copies.invariant.1 c.rest-left.ensures (λ h. rw c.in-To.is at (c.build_copy.ensures h)) q
+    copying-last c.loop-end_node.invariant c.rest-left.ensures c.in_ok-end_node.ensures (c.none-in-loop-end_node.ensures.0 c.if-none-2.true)
 
-pub build_copies-returns-in-TooMany-link : goal.build_copies-returns-in-TooMany-link
-build_copies-returns-in-TooMany-link t c h =
-    let r = c.rest-left.result in
-    let q = eqb-false (r.plain + r.extra) 0 (sym c.none-in-To.ensures ∙ c.if-none-2.false) in
-    let f = rw c.in-To.is at (c.build_copy.ensures h) in
-    let m = rw c.in-TooMany-link.is at c.link-in-To.ensures in
-    copying-full c.copies.invariant.1 c.rest-left.ensures h f (omega arith) m
+pub build_copies-link-requires-in-loop-end_node : goal.build_copies-link-requires-in-loop-end_node
+build_copies-link-requires-in-loop-end_node t c = (c.in_ok-end_node.ensures c.requires.1.part).low
+
+pub build_copies-returns-in_err-at : goal.build_copies-returns-in_err-at
+build_copies-returns-in_err-at t c h =
+    rw c.from_residual-in_err-at.ensures (copying-full c.loop-end_node.invariant c.rest-left.ensures h (c.in_ok-end_node.ensures h) (grind arith) c.in_err-at.ensures)
+
+pub build_copies-loop-end_node-preserved : goal.build_copies-loop-end_node-preserved
+build_copies-loop-end_node-preserved t c =
+    copying-more c.loop-end_node.invariant c.rest-left.ensures c.in_ok-end_node.ensures (grind arith) c.in_ok-at.ensures
 
 -- build_copy
 pub build_copy-returns-then-copies-gt0 : goal.build_copy-returns-then-copies-gt0
 build_copy-returns-then-copies-gt0 t c h = rw (plain_copy c.args.copies.plain c.args.back (frag h.tree) (omega arith)) (c.build_part.ensures h)
 
-pub build_copy-returns : goal.build_copy-returns
-build_copy-returns t c h = rw (extra-copy c.args.copies.plain c.args.back (frag h.tree) (omega arith)) (c.build_around.ensures h)
+pub build_copy-returns-else-copies-gt0 : goal.build_copy-returns-else-copies-gt0
+build_copy-returns-else-copies-gt0 t c h = rw (extra-copy c.args.copies.plain c.args.back (frag h.tree) (omega arith)) (c.build_around.ensures h)
 
 -- build_part
 pub build_part-returns-then-start-ge-NODES_MOST : goal.build_part-returns-then-start-ge-NODES_MOST
 build_part-returns-then-start-ge-NODES_MOST t c h =
-    let R = bottom c.descend-bottom.new.spine _ _ _ c.requires.1 c.descend-bottom.ensures.0 h in
+    let R = bottom _ _ _ _ c.requires.1 c.descend-bottom.ensures.way h in
     omega (arith, R.deep)
-
-pub build_part-offset_bounds-spine-up : goal.build_part-offset_bounds-spine-up
-build_part-offset_bounds-spine-up t c =
-    let R = bottom c.descend-bottom.new.spine _ _ _ c.requires.1 c.descend-bottom.ensures.0 c.requires.1.part in
-    omega (arith, R.room, c.requires.1.short)
-
-pub build_part-slice_bounds-build_bottom-count : goal.build_part-slice_bounds-build_bottom-count
-build_part-slice_bounds-build_bottom-count t c =
-    let R = bottom c.descend-bottom.new.spine _ _ _ c.requires.1 c.descend-bottom.ensures.0 c.requires.1.part in
-    omega (arith, R.room, c.descend-bottom.auto.spine)
-
-pub build_part-slice_bounds-build_bottom-start : goal.build_part-slice_bounds-build_bottom-start
-build_part-slice_bounds-build_bottom-start t c =
-    let R = bottom c.descend-bottom.new.spine _ _ _ c.requires.1 c.descend-bottom.ensures.0 c.requires.1.part in
-    omega (arith, R.room, c.descend-bottom.auto.spine)
 
 pub build_part-build_bottom-requires : goal.build_part-build_bottom-requires
 build_part-build_bottom-requires t c =
     let k = c.requires.1 in
-    let R = bottom c.descend-bottom.new.spine _ _ _ k c.descend-bottom.ensures.0 k.part in (
+    let R = bottom _ _ _ _ k c.descend-bottom.ensures.way k.part in (
       omega (arith, c.decreases, R.room),
       (
-        c.descend-bottom.ensures.1,
+        c.descend-bottom.ensures.whole,
         lent c.descend-bottom.result.passed _ c.descend-bottom.new.spine (omega (arith, R.room, c.descend-bottom.auto.spine)),
-        again k (omega (arith, R.room)) R.part (omega (arith, c.if-start-ge-NODES_MOST.false)) k.room,
+        again k (omega (arith, R.room)) R.part (omega (arith, c.if-start-ge-NODES_MOST.false)),
       ),
     )
 
-pub build_part-returns-in-TooMany : goal.build_part-returns-in-TooMany
-build_part-returns-in-TooMany t c h =
-    let R = bottom c.descend-bottom.new.spine _ _ _ c.requires.1 c.descend-bottom.ensures.0 h in
-    omega (arith, rw c.in-TooMany.is at (c.build_bottom.ensures R.part), R.deep)
+pub build_part-returns-in_err-last : goal.build_part-returns-in_err-last
+build_part-returns-in_err-last t c h =
+    let R = bottom _ _ _ _ c.requires.1 c.descend-bottom.ensures.way h in
+    rw c.from_residual.ensures (omega (arith, c.in_err-last.ensures R.part, R.deep))
 
-pub build_part-up-init : goal.build_part-up-init
-build_part-up-init t c =
+pub build_part-loop-up-init : goal.build_part-loop-up-init
+build_part-loop-up-init t c =
     let s = c.descend-bottom.new.spine in
-    let k = c.descend-bottom.result.passed in
-    let R = bottom s _ _ _ c.requires.1 c.descend-bottom.ensures.0 c.requires.1.part in (
-      same_len_mid k (length s - k) s c.build_bottom.new.spine c.build_bottom.auto.spine ∙ c.descend-bottom.auto.spine,
-      stands-bottom s c.build_bottom.new.spine (length s - k) (omega (arith, R.room, c.descend-bottom.auto.spine)) c.descend-bottom.ensures.0
-          (λ h. rw c.in-To.is at (c.build_bottom.ensures h)),
-    )
-
-pub build_part-offset_bounds-spine-up-in-up : goal.build_part-offset_bounds-spine-up-in-up
-build_part-offset_bounds-spine-up-in-up t c = let T = turn c.requires.1 c.if-up-eq0.false c.up.invariant.1 in omega (arith, T.room, T.short)
-
-pub build_part-bounds-spine-up : goal.build_part-bounds-spine-up
-build_part-bounds-spine-up t c = let T = turn c.requires.1 c.if-up-eq0.false c.up.invariant.1 in omega (arith, T.room, c.up.invariant.0, c.requires.0)
-
-pub build_part-offset_bounds-spine-up-in-up-2 : goal.build_part-offset_bounds-spine-up-in-up-2
-build_part-offset_bounds-spine-up-in-up-2 t c = let T = turn c.requires.1 c.if-up-eq0.false c.up.invariant.1 in omega (arith, T.room, T.short)
-
-pub build_part-slice_bounds-build_after-count : goal.build_part-slice_bounds-build_after-count
-build_part-slice_bounds-build_after-count t c =
-    let T = turn c.requires.1 c.if-up-eq0.false c.up.invariant.1 in
-    omega (arith, T.room, c.up.invariant.0, c.requires.0)
-
-pub build_part-slice_bounds-build_after-start : goal.build_part-slice_bounds-build_after-start
-build_part-slice_bounds-build_after-start t c =
-    let T = turn c.requires.1 c.if-up-eq0.false c.up.invariant.1 in
-    omega (arith, T.room, c.up.invariant.0, c.requires.0)
+    let R = bottom s _ _ _ c.requires.1 c.descend-bottom.ensures.way c.requires.1.part in
+    stands-bottom s c.build_bottom.new.spine _ (omega (arith, R.room, c.descend-bottom.auto.spine)) c.descend-bottom.ensures.way c.in_ok-last.ensures
 
 pub build_part-build_after-requires : goal.build_part-build_after-requires
 build_part-build_after-requires t c =
-    let T = turn c.requires.1 c.if-up-eq0.false c.up.invariant.1 in (
+    let T = turn c.requires.1 c.loop-up-test.true c.loop-up.invariant in (
       omega (arith, c.decreases, T.room),
       (
-        lent (c.up.up - 1) _ c.up.spine (omega (arith, T.room, c.up.invariant.0, c.requires.0)),
-        again c.requires.1 (omega (arith, T.room)) T.right T.low T.free,
+        lent (c.loop-up.up - 1) _ c.loop-up.spine (omega (arith, T.room, c.loop-up.auto.spine, c.requires.0)),
+        again c.requires.1 (omega (arith, T.room)) T.right T.low,
       ),
     )
 
+pub build_part-returns-in_err-y_end : goal.build_part-returns-in_err-y_end
+build_part-returns-in_err-y_end t c h =
+    let T = turn c.requires.1 c.loop-up-test.true c.loop-up.invariant in
+    rw c.from_residual-in_err-y_end.ensures (turn-over T.within T.some c.loop-up.invariant c.in_err-y_end.ensures h)
+
 pub build_part-bounds-program-i : goal.build_part-bounds-program-i
-build_part-bounds-program-i t c = let T = turn c.requires.1 c.if-up-eq0.false c.up.invariant.1 in omega (arith, T.room, T.within)
+build_part-bounds-program-i t c =
+    let T = turn c.requires.1 c.loop-up-test.true c.loop-up.invariant in
+    omega (arith, T.room, T.within)
 
 pub build_part-start_of-start-requires : goal.build_part-start_of-start-requires
-build_part-start_of-start-requires t c = rw c.operation-op.ensures (turn c.requires.1 c.if-up-eq0.false c.up.invariant.1).back
+build_part-start_of-start-requires t c = rw c.from-op.ensures (turn c.requires.1 c.loop-up-test.true c.loop-up.invariant).back
 
 pub build_part-combine-requires : goal.build_part-combine-requires
 build_part-combine-requires t c =
-    let T = turn c.requires.1 c.if-up-eq0.false c.up.invariant.1 in
-    let f = rw c.in-To-build_after.is at (c.build_after.ensures T.right) in
-    (omega (arith, c.start_of-start.ensures, T.order, T.low), T.low, f.low, f.room)
+    let T = turn c.requires.1 c.loop-up-test.true c.loop-up.invariant in
+    (omega (arith, c.start_of-start.ensures, T.order, T.low), T.low, (c.in_ok-y_end.ensures T.right).low)
 
-pub build_part-up-preserved : goal.build_part-up-preserved
-build_part-up-preserved t c =
-    let T = turn c.requires.1 c.if-up-eq0.false c.up.invariant.1 in
-    let o = c.operation-op.ensures in
-    let s = c.up.spine in
-    let u = c.up.up - 1 in (
-      same_len_mid u (length s - u) s c.build_after.new.spine c.build_after.auto.spine ∙ c.up.invariant.0,
-      turn_up T.within T.some c.up.invariant.1 _ _ _ (rw o at c.start_of-start.ensures) (λ h. rw c.in-To-build_after.is at (c.build_after.ensures h))
-          c.requires.1.part _ _ c.build_after.new.spine (length s - u)
-          (omega (arith, T.room, c.up.invariant.0, c.requires.0)) (rw (c.in-To-combine.is, o) at c.combine.ensures),
-    )
+pub build_part-returns-in_err-last-2 : goal.build_part-returns-in_err-last-2
+build_part-returns-in_err-last-2 t c h =
+    let T = turn c.requires.1 c.loop-up-test.true c.loop-up.invariant in
+    let o = c.from-op.ensures in
+    rw c.from_residual-in_err-last-2.ensures
+    (turn-full T.within T.some c.loop-up.invariant _ _ _ (rw o at c.start_of-start.ensures) c.in_ok-y_end.ensures h (rw o at c.in_err-last-2.ensures))
 
-pub build_part-returns-then-up-eq0 : goal.build_part-returns-then-up-eq0
-build_part-returns-then-up-eq0 t c = stands-all c.if-up-eq0.true c.up.invariant.1
+pub build_part-loop-up-preserved : goal.build_part-loop-up-preserved
+build_part-loop-up-preserved t c =
+    let T = turn c.requires.1 c.loop-up-test.true c.loop-up.invariant in
+    let o = c.from-op.ensures in
+    turn_up T.within T.some c.loop-up.invariant _ _ _ (rw o at c.start_of-start.ensures) c.in_ok-y_end.ensures
+    c.requires.1.part _ _ c.build_after.new.spine _ (omega (arith, T.room, c.loop-up.auto.spine, c.requires.0)) (rw o at c.in_ok-last-2.ensures)
 
-pub build_part-returns-in-TooMany-build_after : goal.build_part-returns-in-TooMany-build_after
-build_part-returns-in-TooMany-build_after t c =
-    let T = turn c.requires.1 c.if-up-eq0.false c.up.invariant.1 in
-    turn-over T.within T.some c.up.invariant.1 (λ h. rw c.in-TooMany-build_after.is at (c.build_after.ensures h))
-
-pub build_part-returns-in-TooMany-combine : goal.build_part-returns-in-TooMany-combine
-build_part-returns-in-TooMany-combine t c h =
-    let T = turn c.requires.1 c.if-up-eq0.false c.up.invariant.1 in
-    let o = c.operation-op.ensures in
-    turn-full T.within T.some c.up.invariant.1 _ _ _ (rw o at c.start_of-start.ensures)
-    (λ d. rw c.in-To-build_after.is at (c.build_after.ensures d)) h (rw (c.in-TooMany-combine.is, o) at c.combine.ensures)
+pub build_part-returns : goal.build_part-returns
+build_part-returns t c = stands-all (omega (arith, c.loop-up-test.false)) c.loop-up.invariant
 
 -- build_repeat
 pub build_repeat-returns-in-Star : goal.build_repeat-returns-in-Star

@@ -1,5 +1,4 @@
-use Rattle.std.proofs.Common.{◌≡◌, ◌+◌, ◌*◌, length}
-use Rattle.entries.specs.Entries.{lists}
+use Rattle.std.proofs.Common.{◌+◌, ◌*◌}
 use Rattle.nodes.proofs.CopyLaws.{Copying}
 use Rattle.nodes.proofs.TurnLaws.{Stands}
 use Rattle.nodes.proofs.fragment.+building.Given as goal
@@ -27,19 +26,12 @@ abbrev pub decreases-build_repeat : goal.decreases-build_repeat
 decreases-build_repeat l = 7 * l.end + 6
 
 -- The copies that are left come after those that stand.
-abbrev pub invariant-build_copies-copies : goal.invariant-build_copies-copies
-invariant-build_copies-copies l =
-    (length l.spine ≡ length l.fn.spine)
-    × Copying l.program l.end l.back l.fn.copies l.left l.fn.base.0 l.at.0 (lists l.fn.kind l.fn.to1 l.fn.to2 l.fn.atom) (lists l.kind l.to1 l.to2 l.atom)
+abbrev pub invariant-build_copies-loop-end_node : goal.invariant-build_copies-loop-end_node
+invariant-build_copies-loop-end_node l = Copying l.program l.end l.back l.fn.copies l.left l.fn.base.0 l.at.0 l.fn.nodes l.nodes
 
-abbrev pub decreases-build_copies-copies : goal.decreases-build_copies-copies
-decreases-build_copies-copies l = l.left.plain + l.left.extra
+abbrev pub decreases-build_copies-loop-end_node : goal.decreases-build_copies-loop-end_node
+decreases-build_copies-loop-end_node l = l.left.plain + l.left.extra
 
 -- What was built stands up to `last`; the operations that are left on the spine stand above it.
-abbrev pub invariant-build_part-up : goal.invariant-build_part-up
-invariant-build_part-up l =
-    (length l.spine ≡ length l.fn.spine)
-    × Stands l.program l.end l.fn.base.0 (lists l.fn.kind l.fn.to1 l.fn.to2 l.fn.atom) l.spine l.up l.start.0 (lists l.kind l.to1 l.to2 l.atom) l.last.0
-
-abbrev pub decreases-build_part-up : goal.decreases-build_part-up
-decreases-build_part-up l = l.up
+abbrev pub invariant-build_part-loop-up : goal.invariant-build_part-loop-up
+invariant-build_part-loop-up l = Stands l.program l.end l.fn.base.0 l.fn.nodes l.spine l.up l.start.0 l.nodes l.last.0

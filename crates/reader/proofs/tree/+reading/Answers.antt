@@ -1,49 +1,33 @@
-use mathlib.Core.Path.{refl, sym, ap, ◌∙◌}
-use mathlib.Core.List.{[], ◌∷◌}
+use mathlib.Core.Path.{sym, ◌∙◌}
 use native.Mathlib.Omega.{arith}
-use Rattle.rules.specs.Signs.{opens_group, bar}
 use Rattle.rules.specs.Tree.{nothing, in_row, either, repeated}
-use Rattle.signs.specs.Signs.{sign_of}
 use Rattle.signs.specs.Answers.{repeat_of}
+use Rattle.signs.specs.declared.sign.Sign.TheVariants.{OpensGroup, Bar}
 use Rattle.program.specs.declared.Op.TheVariants.{InRow, Either}
-use Rattle.signs.proofs.SignLaws.{not-sign}
-use Rattle.reader.proofs.TokenLaws.{token_end, token-of, on-within, close-here}
+use Rattle.reader.proofs.TokenLaws.{token_end, token_at, on_within, close_here}
 use Rattle.program.proofs.ProgramKeeps.{wrote_one, wrote-sign, wrote-pair, kept-below}
-use Rattle.reader.proofs.SaysLaws.{atom-deep, group-refused, group-unclosed, group-closed, piece-refused, piece-once, piece-signed, piece-brace, branch-empty, branch-refused, branch-on, pieces-stop, pieces-refused, pieces-on, pattern-refused, pattern-on, branches-end, branches-out, branches-stray, branches-refused, branches-on}
-use borrow.Enum.Refused.{opened}
+use Rattle.reader.proofs.DoneLaws.{passed}
+use Rattle.reader.proofs.SaysLaws.{atom-deep, group-refused, group-unclosed, group-closed, piece-once, piece-signed, piece-brace, branch-empty, branch-on, pieces-stop, pieces-refused, pieces-on, pattern-on, branches-end, branches-out, branches-stray, branches-refused, branches-on}
 use Rattle.reader.proofs.tree.+reading.Goals as goal
 
 pub read_atom-returns-then-groups-ge-GROUPS_MOST : goal.read_atom-returns-then-groups-ge-GROUPS_MOST
 read_atom-returns-then-groups-ge-GROUPS_MOST t c =
-    let o = token-of c.args.p.now c.args.at opens_group (omega (arith, c.requires.within)) (sym (ap sign_of c.in-OpensGroup.is) ∙ c.sign_of.ensures) in
+    let o = token_at c.args.p.now c.args.at OpensGroup (omega arith) (rw c.in-OpensGroup.is at c.from.ensures) in
     atom-deep o c.if-groups-ge-GROUPS_MOST.true (omega arith)
 
+pub read_atom-returns-in_err-next-in-OpensGroup : goal.read_atom-returns-in_err-next-in-OpensGroup
+read_atom-returns-in_err-next-in-OpensGroup t c =
+    let o = token_at c.args.p.now c.args.at OpensGroup (omega arith) (rw c.in-OpensGroup.is at c.from.ensures) in
+    rw (passed c.from_residual.result c.from_residual.ensures.1) (group-refused o c.if-groups-ge-GROUPS_MOST.false c.in_err-next-in-OpensGroup.ensures)
+
 pub read_atom-returns-then-p-next : goal.read_atom-returns-then-p-next
-read_atom-returns-then-p-next t c =
-    let d = rw c.in-Read.is at c.read_branches.ensures in
-    let o = token-of c.args.p.now c.args.at opens_group (omega (arith, c.requires.within)) (sym (ap sign_of c.in-OpensGroup.is) ∙ c.sign_of.ensures) in
+read_atom-returns-then-p-next t c = let d = c.in_ok-next-in-OpensGroup.ensures in
+    let o = token_at c.args.p.now c.args.at OpensGroup (omega arith) (rw c.in-OpensGroup.is at c.from.ensures) in
     group-unclosed o c.if-groups-ge-GROUPS_MOST.false d.says c.if-p-next.true d.high
 
-pub read_atom-overflow_add-result : goal.read_atom-overflow_add-result
-read_atom-overflow_add-result t c = let d = rw c.in-Read.is at c.read_branches.ensures in omega arith
-
-pub read_atom-read_single-requires : goal.read_atom-read_single-requires
-read_atom-read_single-requires t c =
-    record {
-      within = omega arith;
-      is = c.sign_of.ensures;
-      no-group = λ e. not-sign c.sign_of.result (0 ∷ 1 ∷ 2 ∷ 3 ∷ 5 ∷ 6 ∷ 7 ∷ 8 ∷ 9 ∷ 10 ∷ 11 ∷ 12 ∷ 13 ∷ 14 ∷ []) opens_group (opened c.in_default.in_default-own.keys2) tt e;
-      room = omega arith;
-    }
-
-pub read_atom-returns-in-Bad : goal.read_atom-returns-in-Bad
-read_atom-returns-in-Bad t c =
-    let o = token-of c.args.p.now c.args.at opens_group (omega (arith, c.requires.within)) (sym (ap sign_of c.in-OpensGroup.is) ∙ c.sign_of.ensures) in
-    group-refused o c.if-groups-ge-GROUPS_MOST.false (rw c.in-Bad.is at c.read_branches.ensures)
-
 pub read_atom-returns-else-p-next : goal.read_atom-returns-else-p-next
-read_atom-returns-else-p-next t c = let d = rw c.in-Read.is at c.read_branches.ensures in
-    let o = token-of c.args.p.now c.args.at opens_group (omega (arith, c.requires.within)) (sym (ap sign_of c.in-OpensGroup.is) ∙ c.sign_of.ensures) in
+read_atom-returns-else-p-next t c = let d = c.in_ok-next-in-OpensGroup.ensures in
+    let o = token_at c.args.p.now c.args.at OpensGroup (omega arith) (rw c.in-OpensGroup.is at c.from.ensures) in
     record {
       tree = d.tree;
       says = group-closed o c.if-groups-ge-GROUPS_MOST.false d.says c.if-p-next.false;
@@ -59,11 +43,11 @@ pub read_atom-returns-in_default : goal.read_atom-returns-in_default
 read_atom-returns-in_default t c = c.read_single.ensures c.args.groups
 
 pub read_branch-returns-then-stops_at : goal.read_branch-returns-then-stops_at
-read_branch-returns-then-stops_at t c = rw c.one.ensures.0 (record {
+read_branch-returns-then-stops_at t c = rw c.one.ensures.is (record {
   tree = nothing;
-  says = branch-empty (sym c.stops_at.ensures ∙ c.if-stops_at.true);
-  wrote = wrote_one c.one.ensures.1;
-  kept = c.one.ensures.1.kept;
+  says = branch-empty (sym c.if-stops_at.ensures);
+  wrote = wrote_one c.one.ensures.puts;
+  kept = c.one.ensures.puts.kept;
   longer = omega arith;
   low = omega arith;
   high = omega arith;
@@ -71,36 +55,20 @@ read_branch-returns-then-stops_at t c = rw c.one.ensures.0 (record {
 })
 
 pub read_branch-read_piece-requires : goal.read_branch-read_piece-requires
-read_branch-read_piece-requires t c = let i = on-within c.args.p.now c.args.from (sym c.stops_at.ensures ∙ c.if-stops_at.false) in omega arith
-
-pub read_branch-returns-in-Bad : goal.read_branch-returns-in-Bad
-read_branch-returns-in-Bad t c = branch-refused (sym c.stops_at.ensures ∙ c.if-stops_at.false) (rw c.in-Bad.is at c.read_piece.ensures)
-
-pub read_branch-reading-init : goal.read_branch-reading-init
-read_branch-reading-init t c = let d = rw c.in-Read.is at c.read_piece.ensures in
-    (omega arith, omega arith, omega arith, refl, omega arith, λ X w. record { tree = X; wrote = w; kept = refl; back = λ r h. h })
+read_branch-read_piece-requires t c = let i = on_within c.args.p.now c.args.from (sym c.if-stops_at.ensures) in omega arith
 
 pub read_branch-read_piece-requires-in-reading : goal.read_branch-read_piece-requires-in-reading
-read_branch-read_piece-requires-in-reading t c = let i = on-within c.args.p.now c.reading.at (sym c.stops_at-in-reading.ensures ∙ c.if-stops_at-2.false) in omega (arith, c.read_piece.auto)
+read_branch-read_piece-requires-in-reading t c = let i = on_within c.args.p.now c.reading.at (sym c.if-stops_at-2.ensures) in omega (arith, c.read_piece.auto)
 
-pub read_branch-overflow_sub-end : goal.read_branch-overflow_sub-end
-read_branch-overflow_sub-end t c = let d = rw c.in-Read-read_piece.is at c.read_piece-in-reading.ensures in omega arith
-
-pub read_branch-overflow_cast-end : goal.read_branch-overflow_cast-end
-read_branch-overflow_cast-end t c = let d = rw c.in-Read-read_piece.is at c.read_piece-in-reading.ensures in omega arith
-
-pub read_branch-put-requires : goal.read_branch-put-requires
-read_branch-put-requires t c = let d = rw c.in-Read-read_piece.is at c.read_piece-in-reading.ensures in omega (arith, c.read_piece-in-reading.auto, c.read_piece.auto)
-
-pub read_branch-overflow_add-n : goal.read_branch-overflow_add-n
-read_branch-overflow_add-n t c = let d = rw c.in-Read-read_piece.is at c.read_piece-in-reading.ensures in omega (arith, c.requires, c.well_formed)
-
-pub read_branch-reading-smaller : goal.read_branch-reading-smaller
-read_branch-reading-smaller t c = let d = rw c.in-Read-read_piece.is at c.read_piece-in-reading.ensures in omega arith
+pub read_branch-returns-in_err-next : goal.read_branch-returns-in_err-next
+read_branch-returns-in_err-next t c = let d = c.in_ok-at.ensures in
+    let g = c.reading.invariant.5 d.tree d.wrote in
+    let b = pieces-refused (sym c.if-stops_at-2.ensures) c.in_err-next.ensures in
+    rw (passed _ c.from_residual-in_err-next.ensures.1) (branch-on (sym c.if-stops_at.ensures) d.says (g.back _ b))
 
 pub read_branch-reading-preserved : goal.read_branch-reading-preserved
-read_branch-reading-preserved t c = let d = rw c.in-Read-read_piece.is at c.read_piece-in-reading.ensures in
-    let k = c.in-Read-read_piece.end in
+read_branch-reading-preserved t c = let d = c.in_ok-next.ensures in
+    let k = c.in_ok-next.end in
     let l = c.read_piece-in-reading.new.program in let new = c.put.new.program in (
       omega arith,
       omega arith,
@@ -112,16 +80,16 @@ read_branch-reading-preserved t c = let d = rw c.in-Read-read_piece.is at c.read
             tree = in_row g.tree d.tree;
             wrote = wrote-pair l new c.args.start k InRow g.tree d.tree c.reading.program c.reading.n g.wrote d.kept d.wrote c.put.ensures;
             kept = kept-below l new c.args.start k c.put.ensures.kept (omega arith) ∙ kept-below c.reading.program l c.args.start c.reading.n d.kept (omega arith) ∙ g.kept;
-            back = λ r h. g.back r (pieces-on (sym c.stops_at-in-reading.ensures ∙ c.if-stops_at-2.false) d.says h);
+            back = λ r h. g.back r (pieces-on (sym c.if-stops_at-2.ensures) d.says h);
           },
     )
 
-pub read_branch-returns-then-stops_at-2 : goal.read_branch-returns-then-stops_at-2
-read_branch-returns-then-stops_at-2 t c = let d = rw c.in-Read.is at c.read_piece.ensures in
+pub read_branch-returns : goal.read_branch-returns
+read_branch-returns t c = let d = c.in_ok-at.ensures in
     let g = c.reading.invariant.5 d.tree d.wrote in
     record {
       tree = g.tree;
-      says = branch-on (sym c.stops_at.ensures ∙ c.if-stops_at.false) d.says (g.back _ (pieces-stop (sym c.stops_at-in-reading.ensures ∙ c.if-stops_at-2.true)));
+      says = branch-on (sym c.if-stops_at.ensures) d.says (g.back _ (pieces-stop (sym c.if-stops_at-2.ensures)));
       wrote = g.wrote;
       kept = g.kept ∙ d.kept;
       longer = omega arith;
@@ -130,42 +98,19 @@ read_branch-returns-then-stops_at-2 t c = let d = rw c.in-Read.is at c.read_piec
       room = omega arith;
     }
 
-pub read_branch-returns-in-Bad-read_piece : goal.read_branch-returns-in-Bad-read_piece
-read_branch-returns-in-Bad-read_piece t c = let d = rw c.in-Read.is at c.read_piece.ensures in
+pub read_branches-returns-in_err-next-in-Bar : goal.read_branches-returns-in_err-next-in-Bar
+read_branches-returns-in_err-next-in-Bar t c = let d = c.in_ok-at.ensures in
     let g = c.reading.invariant.5 d.tree d.wrote in
-    let b = pieces-refused (sym c.stops_at-in-reading.ensures ∙ c.if-stops_at-2.false) (rw c.in-Bad-read_piece.is at c.read_piece-in-reading.ensures) in
-    branch-on (sym c.stops_at.ensures ∙ c.if-stops_at.false) d.says (g.back _ b)
-
-pub read_branches-returns-in-Bad : goal.read_branches-returns-in-Bad
-read_branches-returns-in-Bad t c = pattern-refused (rw c.in-Bad.is at c.read_branch.ensures)
-
-pub read_branches-reading-init : goal.read_branches-reading-init
-read_branches-reading-init t c = let d = rw c.in-Read.is at c.read_branch.ensures in
-    (omega arith, omega arith, omega arith, refl, omega arith, λ X w. record { tree = X; wrote = w; kept = refl; back = λ r h. h })
-
-pub read_branches-read_branch-requires-in-Bar : goal.read_branches-read_branch-requires-in-Bar
-read_branches-read_branch-requires-in-Bar t c = omega (arith, c.read_branch.auto)
-
-pub read_branches-overflow_sub-end : goal.read_branches-overflow_sub-end
-read_branches-overflow_sub-end t c = let d = rw c.in-Read-read_branch.is at c.read_branch-in-Bar.ensures in omega arith
-
-pub read_branches-overflow_cast-end : goal.read_branches-overflow_cast-end
-read_branches-overflow_cast-end t c = let d = rw c.in-Read-read_branch.is at c.read_branch-in-Bar.ensures in omega arith
-
-pub read_branches-put-requires : goal.read_branches-put-requires
-read_branches-put-requires t c = let d = rw c.in-Read-read_branch.is at c.read_branch-in-Bar.ensures in omega (arith, c.read_branch-in-Bar.auto, c.read_branch.auto)
-
-pub read_branches-overflow_add-n : goal.read_branches-overflow_add-n
-read_branches-overflow_add-n t c = let d = rw c.in-Read-read_branch.is at c.read_branch-in-Bar.ensures in omega (arith, c.requires, c.well_formed)
-
-pub read_branches-reading-smaller : goal.read_branches-reading-smaller
-read_branches-reading-smaller t c = let d = rw c.in-Read-read_branch.is at c.read_branch-in-Bar.ensures in omega arith
+    let h = c.in-Some.ensures.lookup.3 in
+    let o = token_at c.args.p.now c.reading.at Bar h.0 (rw (c.in-Bar.is, h.1 0) at c.from.ensures) in
+    rw (passed _ c.from_residual-in_err-next-in-Bar.ensures.1) (pattern-on d.says (g.back _ (branches-refused o c.in_err-next-in-Bar.ensures)))
 
 pub read_branches-reading-preserved : goal.read_branches-reading-preserved
-read_branches-reading-preserved t c = let d = rw c.in-Read-read_branch.is at c.read_branch-in-Bar.ensures in
-    let k = c.in-Read-read_branch.end in
+read_branches-reading-preserved t c = let d = c.in_ok-next-in-Bar.ensures in
+    let k = c.in_ok-next-in-Bar.end in
     let l = c.read_branch-in-Bar.new.program in let new = c.put.new.program in
-    let t = token-of c.args.p.now c.reading.at bar c.if-p-at.false (sym (ap sign_of c.in-Bar.is) ∙ c.sign_of.ensures) in (
+    let h = c.in-Some.ensures.lookup.3 in
+    let o = token_at c.args.p.now c.reading.at Bar h.0 (rw (c.in-Bar.is, h.1 0) at c.from.ensures) in (
       omega arith,
       omega arith,
       omega arith,
@@ -176,16 +121,16 @@ read_branches-reading-preserved t c = let d = rw c.in-Read-read_branch.is at c.r
             tree = either g.tree d.tree;
             wrote = wrote-pair l new c.args.start k Either g.tree d.tree c.reading.program c.reading.n g.wrote d.kept d.wrote c.put.ensures;
             kept = kept-below l new c.args.start k c.put.ensures.kept (omega arith) ∙ kept-below c.reading.program l c.args.start c.reading.n d.kept (omega arith) ∙ g.kept;
-            back = λ r h. g.back r (branches-on t d.says h);
+            back = λ r h. g.back r (branches-on o d.says h);
           },
     )
 
-pub read_branches-returns-then-p-at : goal.read_branches-returns-then-p-at
-read_branches-returns-then-p-at t c = let d = rw c.in-Read.is at c.read_branch.ensures in
+pub read_branches-returns-in_default : goal.read_branches-returns-in_default
+read_branches-returns-in_default t c = let d = c.in_ok-at.ensures in
     let g = c.reading.invariant.5 d.tree d.wrote in
     record {
       tree = g.tree;
-      says = pattern-on d.says (g.back _ (branches-end (token_end c.args.p.now c.reading.at c.if-p-at.true)));
+      says = pattern-on d.says (g.back _ (branches-end (token_end c.args.p.now c.reading.at c.in_default.ensures.lookup.3)));
       wrote = g.wrote;
       kept = g.kept ∙ d.kept;
       longer = omega arith;
@@ -194,25 +139,21 @@ read_branches-returns-then-p-at t c = let d = rw c.in-Read.is at c.read_branch.e
       room = omega arith;
     }
 
-pub read_branches-returns-in-Bad-read_branch : goal.read_branches-returns-in-Bad-read_branch
-read_branches-returns-in-Bad-read_branch t c = let d = rw c.in-Read.is at c.read_branch.ensures in
+pub read_branches-returns-in_default-from : goal.read_branches-returns-in_default-from
+read_branches-returns-in_default-from t c = let d = c.in_ok-at.ensures in
     let g = c.reading.invariant.5 d.tree d.wrote in
-    let t = token-of c.args.p.now c.reading.at bar c.if-p-at.false (sym (ap sign_of c.in-Bar.is) ∙ c.sign_of.ensures) in
-    pattern-on d.says (g.back _ (branches-refused t (rw c.in-Bad-read_branch.is at c.read_branch-in-Bar.ensures)))
+    let h = c.in-Some.ensures.lookup.3 in
+    let o = close_here c.args.p.now c.reading.at c.from.result h.0 (rw (h.1 0) at c.from.ensures) c.in_default-from.not-Bar in
+    pattern-on d.says (g.back _ (branches-stray o c.if-groups-eq0.true (omega arith)))
 
-pub read_branches-returns-then-groups-eq0 : goal.read_branches-returns-then-groups-eq0
-read_branches-returns-then-groups-eq0 t c = let d = rw c.in-Read.is at c.read_branch.ensures in
+pub read_branches-returns-in_default-2 : goal.read_branches-returns-in_default-2
+read_branches-returns-in_default-2 t c = let d = c.in_ok-at.ensures in
     let g = c.reading.invariant.5 d.tree d.wrote in
-    let e = close-here c.args.p.now c.reading.at c.sign_of.result c.if-p-at.false c.sign_of.ensures (opened c.in_default.in_default-own.keys2) in
-    pattern-on d.says (g.back _ (branches-stray e c.if-groups-eq0.true (omega arith)))
-
-pub read_branches-returns-else-groups-eq0 : goal.read_branches-returns-else-groups-eq0
-read_branches-returns-else-groups-eq0 t c = let d = rw c.in-Read.is at c.read_branch.ensures in
-    let g = c.reading.invariant.5 d.tree d.wrote in
-    let e = close-here c.args.p.now c.reading.at c.sign_of.result c.if-p-at.false c.sign_of.ensures (opened c.in_default.in_default-own.keys2) in
+    let h = c.in-Some.ensures.lookup.3 in
+    let o = close_here c.args.p.now c.reading.at c.from.result h.0 (rw (h.1 0) at c.from.ensures) c.in_default-from.not-Bar in
     record {
       tree = g.tree;
-      says = pattern-on d.says (g.back _ (branches-out e (omega arith)));
+      says = pattern-on d.says (g.back _ (branches-out o (omega arith)));
       wrote = g.wrote;
       kept = g.kept ∙ d.kept;
       longer = omega arith;
@@ -221,24 +162,15 @@ read_branches-returns-else-groups-eq0 t c = let d = rw c.in-Read.is at c.read_br
       room = omega arith;
     }
 
-pub read_piece-after_atom-requires : goal.read_piece-after_atom-requires
-read_piece-after_atom-requires t c = let d = rw c.in-Read.is at c.read_atom.ensures in omega arith
+pub read_piece-returns-in_err-after_atom : goal.read_piece-returns-in_err-after_atom
+read_piece-returns-in_err-after_atom t c = let d = c.in_ok-next.ensures in let a = c.in_err-after_atom.ensures in
+    rw (passed _ c.from_residual-in_err-after_atom.ensures.1, a.1) (piece-brace d.says a.0 d.high)
 
-pub read_piece-one-requires : goal.read_piece-one-requires
-read_piece-one-requires t c = let d = rw c.in-Read.is at c.read_atom.ensures in
-    let a = rw c.in-Sign.is at c.after_atom.ensures in omega (arith, c.read_atom.auto)
-
-pub read_piece-returns-in-Bad : goal.read_piece-returns-in-Bad
-read_piece-returns-in-Bad t c = piece-refused (rw c.in-Bad.is at c.read_atom.ensures)
-
-pub read_piece-returns-in-Bad-after_atom : goal.read_piece-returns-in-Bad-after_atom
-read_piece-returns-in-Bad-after_atom t c = let d = rw c.in-Read.is at c.read_atom.ensures in piece-brace d.says (rw c.in-Bad-after_atom.is at c.after_atom.ensures) d.high
-
-pub read_piece-returns-in-Nothing : goal.read_piece-returns-in-Nothing
-read_piece-returns-in-Nothing t c = let d = rw c.in-Read.is at c.read_atom.ensures in
+pub read_piece-returns-in-None : goal.read_piece-returns-in-None
+read_piece-returns-in-None t c = let d = c.in_ok-next.ensures in
     record {
       tree = d.tree;
-      says = piece-once d.says (rw c.in-Nothing.is at c.after_atom.ensures);
+      says = piece-once d.says (rw c.in-None.is at c.in_ok-after_atom.ensures);
       wrote = d.wrote;
       kept = d.kept;
       longer = omega arith;
@@ -247,15 +179,15 @@ read_piece-returns-in-Nothing t c = let d = rw c.in-Read.is at c.read_atom.ensur
       room = omega arith;
     }
 
-pub read_piece-returns-in-Sign : goal.read_piece-returns-in-Sign
-read_piece-returns-in-Sign t c = let d = rw c.in-Read.is at c.read_atom.ensures in
-    let a = rw c.in-Sign.is at c.after_atom.ensures in
-    let k = c.in-Read.end in
-    rw c.one.ensures.0 (record {
-      tree = repeated (repeat_of c.in-Sign.sign) d.tree;
+pub read_piece-returns-in-Some : goal.read_piece-returns-in-Some
+read_piece-returns-in-Some t c = let d = c.in_ok-next.ensures in
+    let a = rw c.in-Some.is at c.in_ok-after_atom.ensures in
+    let k = c.in_ok-next.end in
+    rw c.one.ensures.is (record {
+      tree = repeated (repeat_of c.in-Some.sign) d.tree;
       says = piece-signed d.says a.0;
-      wrote = wrote-sign c.read_atom.new.program c.one.new.program c.args.n k d.tree c.in-Sign.sign d.wrote c.one.ensures.1;
-      kept = kept-below c.read_atom.new.program c.one.new.program c.args.n k c.one.ensures.1.kept (omega arith) ∙ d.kept;
+      wrote = wrote-sign c.read_atom.new.program c.one.new.program c.args.n k d.tree c.in-Some.sign d.wrote c.one.ensures.puts;
+      kept = kept-below c.read_atom.new.program c.one.new.program c.args.n k c.one.ensures.puts.kept (omega arith) ∙ d.kept;
       longer = omega arith;
       low = omega arith;
       high = omega arith;

@@ -1,87 +1,84 @@
-use mathlib.Core.Path.{◌≡◌, refl, ap, sym, ◌∙◌}
+use mathlib.Core.Path.{◌≡◌, ap, sym, ◌∙◌}
 use mathlib.Core.Bool.{true, false}
 use mathlib.Core.List.{List, ◌∷◌, ◌++◌, reverse, reverse-cons}
-use Prim.Native.Nat.{ℕ, ◌+◌, ◌-◌, ◌<◌}
+use Prim.Native.Nat.{ℕ, ◌+◌, ◌-◌}
 use native.Mathlib.Omega.{arith}
-use lib.ListN.{length, set, drop, length-set, length-reverse}
-use Rattle.ahead.specs.Ahead.{lent}
+use lib.ListN.{length, set, drop, length-reverse}
+use Rattle.table.specs.Lent.{lent_table}
 use Rattle.ahead.specs.Ahead.{starts_from}
 use Rattle.ahead.proofs.AheadLaws.{flags-end}
 use Rattle.ahead.proofs.PlaceLaws.{starts-all, starts_none}
-use Rattle.starts.proofs.StartsLaws.{starts-back, starts-less}
+use Rattle.starts.proofs.StartsLaws.{starts-back, starts-few}
 use Rattle.starts.proofs.BackLaws.{set_next}
 use Rattle.starts.proofs.back.list_back.Goals as goal
-use Rattle.starts.proofs.back.list_back.Goals.{Then-seen}
+use Rattle.table.proofs.CheckLaws.{well}
+use Rattle.starts.proofs.back.list_back.Goals.{Then-look, then-count-list, else-count-list}
 
--- the starts from s - 1 on, at a start
-one : (c : Then-seen) → let A = c.args in
-    starts_from (lent A.rows A.marks.now A.cells.now) A.text.now (c.loop-s.s - 1) ≡ (c.loop-s.s - 1) ∷ starts_from (lent A.rows A.marks.now A.cells.now) A.text.now c.loop-s.s
-one c =
-    let A = c.args in
-    starts-back (lent A.rows A.marks.now A.cells.now) A.text.now c.loop-s.s true c.loop-s-test.true (omega arith) (sym c.look_back-seen.ensures.answer ∙ c.if-seen.true)
-
--- and there is a place for it
-room : (c : Then-seen) → c.loop-s.count < length c.loop-s.list
-room c =
-    let A = c.args in
-    omega (arith, ap length (one c), starts-less (lent A.rows A.marks.now A.cells.now) A.text.now (c.loop-s.s - 1) (omega arith), c.requires.text_in_bounds)
-
-pub flags_at_end-flags-requires : goal.flags_at_end-flags-requires
-flags_at_end-flags-requires c = c.requires.ready.well
+pub flags_at_end-requires : goal.flags_at_end-requires
+flags_at_end-requires c = well c.args.search.now.passed
 
 pub loop-s-init : goal.loop-s-init
-loop-s-init c = let A = c.args in (
-  record { come = omega arith; inside = omega arith; cheap = omega arith; flagged = flags-end A.text.now c.flags_at_end-flags.ensures },
-  (
-    sym (ap length (starts_none (lent A.rows A.marks.now A.cells.now) A.text.now)),
-    (
-      refl,
-      sym (ap (λ (l : List ℕ). reverse l ++ A.list.now) (starts_none (lent A.rows A.marks.now A.cells.now) A.text.now)),
-    ),
-  ),
-)
+loop-s-init c = let S = c.args.search.now in
+    let e = starts_none (lent_table S.table) S.text.now in
+    record {
+      pass = record { come = omega arith; inside = omega arith; cheap = omega arith; flagged = flags-end S.text.now c.flags_at_end.ensures };
+      counted = sym (ap length e);
+      listed = λ h. sym (ap (λ (l : List ℕ). reverse l ++ c.args.list.now) e);
+    }
 
-pub look_back-seen-requires : goal.look_back-seen-requires
-look_back-seen-requires c = record {
-  ready = c.requires.ready;
-  pass = (record { come = omega arith; inside = c.loop-s.invariant.0.inside; cheap = c.loop-s.invariant.0.cheap; flagged = c.loop-s.invariant.0.flagged }, omega arith);
-}
+pub look-requires : goal.look-requires
+look-requires c = let P = c.loop-s.invariant.pass in
+    (record { come = omega arith; inside = P.inside; cheap = P.cheap; flagged = P.flagged }, omega arith)
 
-pub offset_bounds-list-count : goal.offset_bounds-list-count
-offset_bounds-list-count c = omega (arith, room (goal.at.offset_bounds-list-count c).Then-seen)
-
-pub bounds-list-count : goal.bounds-list-count
-bounds-list-count c = room (goal.at.bounds-list-count c).Then-seen
+-- the starts from s - 1 on, at a start
+one : (c : Then-look) → let S = c.args.search.now in
+    starts_from (lent_table S.table) S.text.now (c.loop-s.s - 1) ≡ (c.loop-s.s - 1) ∷ starts_from (lent_table S.table) S.text.now c.loop-s.s
+one c =
+    let S = c.args.search.now in
+    starts-back (lent_table S.table) S.text.now c.loop-s.s true (omega arith) (omega arith) (sym c.look.ensures.answer ∙ c.if-look.true)
 
 pub overflow_add-count : goal.overflow_add-count
-overflow_add-count c = omega (arith, room (goal.at.overflow_add-count c).Then-seen)
+overflow_add-count c = let S = c.args.search.now in
+    omega (arith, c.loop-s.invariant.counted, starts-few (lent_table S.table) S.text.now c.loop-s.s, S.passed.short)
 
-pub loop-s-preserved-then-seen : goal.loop-s-preserved-then-seen
-loop-s-preserved-then-seen c = let A = c.args in
-    let l = starts_from (lent A.rows A.marks.now A.cells.now) A.text.now c.loop-s.s in (
-      c.look_back-seen.ensures.pass,
-      (
-        omega (arith, ap length (one (goal.at.loop-s-preserved-then-seen c).Then-seen)),
-        (
-          simp length-set c.loop-s.invariant.1.1.0,
-          ap (λ (x : List ℕ). set x c.loop-s.count (c.loop-s.s - 1)) c.loop-s.invariant.1.1.1
-              ∙ set_next (reverse l) A.list.now c.loop-s.count (c.loop-s.s - 1) (length-reverse l ∙ sym c.loop-s.invariant.1.0) (omega (arith, room (goal.at.loop-s-preserved-then-seen c).Then-seen, c.loop-s.invariant.1.1.0))
-              ∙ ap (λ (x : List ℕ). x ++ drop (c.loop-s.count + 1) A.list.now) (sym (ap (λ (x : List ℕ). reverse x) (one (goal.at.loop-s-preserved-then-seen c).Then-seen) ∙ reverse-cons (c.loop-s.s - 1) l)),
-        ),
-      ),
-    )
+pub loop-s-preserved-then-look : goal.loop-s-preserved-then-look
+loop-s-preserved-then-look c =
+    let S = c.args.search.now in
+    let old = c.args.list.now in
+    let n = c.loop-s.count in
+    let s = c.loop-s.s - 1 in
+    let l = starts_from (lent_table S.table) S.text.now c.loop-s.s in
+    let more = one (goal.at.loop-s-preserved-then-look c).Then-look in
+    let I = c.loop-s.invariant in
+    record {
+      pass = c.look.ensures.pass;
+      counted = omega (arith, ap length more, I.counted);
+      listed = λ h. elim c.if-count-list.branch [
+        | then-count-list w ↦
+            w.list-is ∙ ap (λ (x : List ℕ). set x n s) (I.listed (omega arith))
+            ∙ set_next (reverse l) old n s (length-reverse l ∙ sym I.counted) (omega arith)
+            ∙ ap (λ (x : List ℕ). x ++ drop (n + 1) old) (sym (ap (λ (x : List ℕ). reverse x) more ∙ reverse-cons s l))
+        | else-count-list w ↦ absurd (omega (arith, w.if-count-list.false))
+      ];
+    }
 
 pub loop-s-preserved : goal.loop-s-preserved
-loop-s-preserved c = let A = c.args in
-    let e = starts-back (lent A.rows A.marks.now A.cells.now) A.text.now c.loop-s.s false c.loop-s-test.true (omega arith) (sym c.look_back-seen.ensures.answer ∙ c.if-seen.false) in
-    (c.look_back-seen.ensures.pass, (c.loop-s.invariant.1.0 ∙ sym (ap length e), (c.loop-s.invariant.1.1.0, c.loop-s.invariant.1.1.1 ∙ ap (λ (x : List ℕ). reverse x ++ drop c.loop-s.count A.list.now) (sym e))))
+loop-s-preserved c =
+    let S = c.args.search.now in
+    let e = starts-back (lent_table S.table) S.text.now c.loop-s.s false (omega arith) (omega arith) (sym c.look.ensures.answer ∙ c.if-look.false) in
+    record {
+      pass = c.look.ensures.pass;
+      counted = c.loop-s.invariant.counted ∙ sym (ap length e);
+      listed = λ h. c.loop-s.invariant.listed h ∙ ap (λ (x : List ℕ). reverse x ++ drop c.loop-s.count c.args.list.now) (sym e);
+    }
 
 pub returns : goal.returns
-returns c = let A = c.args in
-    let w = lent A.rows A.marks.now A.cells.now in
+returns c =
+    let S = c.args.search.now in
+    let w = lent_table S.table in
     let z : c.loop-s.s ≡ 0 = omega arith in
-    let e = ap (starts_from w A.text.now) z ∙ sym (starts-all w A.text.now) in
+    let e = ap (starts_from w S.text.now) z ∙ sym (starts-all w S.text.now) in
     record {
-      value = c.loop-s.invariant.1.0 ∙ ap length e;
-      list_after = c.loop-s.invariant.1.1.1 ∙ ap (λ (l : List ℕ). reverse l ++ drop c.loop-s.count A.list.now) e;
+      value = c.loop-s.invariant.counted ∙ ap length e;
+      list_after = λ h. c.loop-s.invariant.listed h ∙ ap (λ (l : List ℕ). reverse l ++ drop c.loop-s.count c.args.list.now) e;
     }

@@ -1,6 +1,0 @@
-use Rattle.jorvimest.proofs.TextLaws.{text-numbers}
-use Rattle.jorvimest.proofs.texts.jorvimest_refusal.Goals as goal
-
--- `jorvimest_refusal` meets its contract: the code, the length and the buffer of the line.
-pub returns : goal.returns
-returns c = let the-parts = text-numbers c.write_refused-answer.result _ c.write_refused-answer.ensures c.put_text.ensures.code c.put_text.ensures.length in record { code = the-parts.0; length = the-parts.1.0; out = the-parts.1.1 }
