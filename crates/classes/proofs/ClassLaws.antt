@@ -7,12 +7,13 @@ use mathlib.Core.Option.{Option, none, some}
 use Prim.Native.Nat.{ℕ, zero, suc, ◌+◌, ◌-◌, ◌≤◌, ◌<◌}
 use native.Mathlib.Omega.{arith}
 use lib.Dec.{eqb}
-use lib.ListN.{length, take, drop, length-drop}
+use lib.ListN.{length, take, drop, get_or, length-drop}
 use borrow.Author.Tests.{eq-eqb, ne_eqb}
-use Rattle.rules.specs.Tools.{◌>>=◌, guard, or_else, if_some, up_from, range, with, with_all}
+use Rattle.rules.specs.Tools.{◌>>=◌, guard, or_else, if_some, with, with_all}
 use Rattle.rules.specs.Signs.{named}
 use Rattle.rules.specs.Reader.{past, past_all, named_class, member, item, items}
 use Rattle.signs.specs.Answers.{Reads}
+use Rattle.signs.proofs.Places.{here, at-end}
 use Rattle.std.specs.List.{starts_with}
 use Rattle.std.proofs.lemmas.List.{take_rest, drop-drop}
 use native.Mathlib.Decide.{ℕ_discrete}
@@ -29,6 +30,18 @@ starts (c ∷ cs) (x ∷ xs) = go (ℕ_discrete c x) (starts cs xs)
     go : Dec (c ≡ x) → guard (starts_with eqb xs cs) (drop (length cs) xs) ≡ past_all cs xs → guard (starts_with eqb (x ∷ xs) (c ∷ cs)) (drop (length (c ∷ cs)) (x ∷ xs)) ≡ past_all (c ∷ cs) (x ∷ xs)
     go (yes e) k = rw (eq-eqb c x e, eq-eqb x c (sym e)) k
     go (no n) k = rw (ne_eqb c x n, ne_eqb x c (λ e. n (sym e)))
+
+-- at byte i: the rest of the name has to stand, or nothing does
+module _ (s name : List ℕ) (i : ℕ) (l : i < length s) (h : i < length name) where
+  pub starts-on : get_or s i 0 ≡ get_or name i 0 → starts_with eqb (drop i s) (drop i name) ≡ starts_with eqb (drop (i + 1) s) (drop (i + 1) name)
+  starts-on e = rw (here s i l, here name i h, eq-eqb (get_or name i 0) (get_or s i 0) (sym e))
+
+  pub starts-off : (get_or s i 0 ≡ get_or name i 0 → ⊥) → starts_with eqb (drop i s) (drop i name) ≡ false
+  starts-off n = rw (here s i l, here name i h, ne_eqb (get_or name i 0) (get_or s i 0) (λ e. n (sym e)))
+
+-- past its last byte the name stands
+pub starts-all : (s name : List ℕ) (i : ℕ) → length name ≤ i → starts_with eqb (drop i s) (drop i name) ≡ true
+starts-all s name i h = rw (at-end name i h)
 
 -- ---- named classes
 

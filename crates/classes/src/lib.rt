@@ -1,7 +1,8 @@
 // Classes: members, ranges and named classes.
 #![tactic(auto)]
 
-ghost use Rattle.std.specs.Prelude.{◌≤◌, length};
+ghost use Rattle.std.specs.Prelude.{◌≡◌, ◌≤◌, IsTrue, eqb, length};
+ghost use Rattle.std.specs.List.{starts_with};
 ghost use Rattle.rules.specs.Reader.{member, class};
 ghost use Rattle.signs.specs.Answers.{value_of, Reads};
 ghost use Rattle.bytesets.specs.ByteSets.{bytes_of};
@@ -24,36 +25,53 @@ fn read_member(p: &[u8], at: usize) -> Option<(u8, usize)>
     }
 }
 
+// Whether the name stands at the start of the bytes. No `starts_with`, which looks at all bytes of a name: most names part at their
+// third.
+fn spells(bytes: &[u8], name: &[u8]) -> bool
+    ensures bound { IsTrue result → length name.now ≤ length bytes.now }
+    ensures value { result ≡ starts_with eqb bytes.now name.now }
+{
+    if bytes.len() < name.len() {
+        return false;
+    }
+    for (i, c) in name.iter().enumerate() {
+        if bytes[i] != *c {
+            return false;
+        }
+    }
+    true
+}
+
 // The named class at `at`, added to set, and the place after it.
 fn read_name(p: &[u8], at: usize, set: ByteSet) -> Option<(ByteSet, usize)>
     requires { at ≤ length p.now }
     ensures { Reads 1 (with_name (bytes_of set)) p.now at (class_of result) }
 {
     let rest = &p[at..];
-    if rest.starts_with(b"[:digit:]") {
+    if spells(rest, b"[:digit:]") {
         return Some((set.with_range(b'0', b'9'), at + 9));
     }
-    if rest.starts_with(b"[:upper:]") {
+    if spells(rest, b"[:upper:]") {
         return Some((set.with_range(b'A', b'Z'), at + 9));
     }
-    if rest.starts_with(b"[:lower:]") {
+    if spells(rest, b"[:lower:]") {
         return Some((set.with_range(b'a', b'z'), at + 9));
     }
-    if rest.starts_with(b"[:alpha:]") {
+    if spells(rest, b"[:alpha:]") {
         return Some((set.with_range(b'A', b'Z').with_range(b'a', b'z'), at + 9));
     }
-    if rest.starts_with(b"[:alnum:]") {
+    if spells(rest, b"[:alnum:]") {
         let letters = set.with_range(b'A', b'Z').with_range(b'a', b'z');
         return Some((letters.with_range(b'0', b'9'), at + 9));
     }
-    if rest.starts_with(b"[:xdigit:]") {
+    if spells(rest, b"[:xdigit:]") {
         let digits = set.with_range(b'0', b'9');
         return Some((
             digits.with_range(b'A', b'F').with_range(b'a', b'f'),
             at + 10,
         ));
     }
-    if rest.starts_with(b"[:space:]") {
+    if spells(rest, b"[:space:]") {
         return Some((set.with_range(9, 13).with_range(32, 32), at + 9));
     }
     None

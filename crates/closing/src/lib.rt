@@ -40,14 +40,20 @@ impl<'n> Crossed<'n> {
         requires { NodesIn self.now.nodes.now × (u.0 < length self.now.nodes.now) }
         ensures { result ≡ targets_at self.now.head self.now.tail self.now.nodes.now u.0 }
     {
-        let entry = self.nodes[u.0 as usize];
-        let next = Node(u.0 + 1);
-        match entry.kind {
-            Kind::Empty => Some((entry.to1, entry.to2)),
-            Kind::Head => self.head.then_some((next, next)),
-            Kind::Tail => self.tail.then_some((next, next)),
-            Kind::Last | Kind::Bytes => None,
+        // Read in place: a copy of the entry is one word, out of which its parts are cut again. Most edges that are followed are empty
+        // ones, so these are asked for first, and by tests, since a table of jumps takes longer.
+        let entry = &self.nodes[u.0 as usize];
+        if let Kind::Empty = entry.kind {
+            return Some((entry.to1, entry.to2));
         }
+        let next = Node(u.0 + 1);
+        if let Kind::Head = entry.kind {
+            return if self.head { Some((next, next)) } else { None };
+        }
+        if let Kind::Tail = entry.kind {
+            return if self.tail { Some((next, next)) } else { None };
+        }
+        None
     }
 
     // Goes from node to first target, as long as that is new. Second targets that are new are pending. The word to go on at.
@@ -93,10 +99,12 @@ impl<'n> Crossed<'n> {
         ensures { (length set.new ≡ length set.old) × ((length pending.new ≡ length set.old)
             × (mask_of set.new ≡ closing_of self.now.head self.now.tail self.now.nodes.now (mask_of set.old))) }
     {
+        // a copy, so that what it holds stays in registers
+        let crossed = *self;
         // A while: a step may go on, stay or go back.
         let mut i: usize = 0;
         while i < set.len() {
-            i = self.advance(set, pending, i);
+            i = crossed.advance(set, pending, i);
         }
     }
 }

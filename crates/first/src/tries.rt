@@ -18,7 +18,9 @@ pub enum Tried {
     NoneBelow(usize),
 }
 
-// Tries the starts in order until one has a match, or until the walks have read the text four times over.
+// Tries the starts in order until one has a match, or until the walks have read the text four times over. Not inlined, so that the flags
+// and the list of rows of `read_on` are never on the stack together.
+#[inline(never)]
 pub fn try_each(search: &Search<'_>) -> Tried
     ensures { Tries (lent_table search.now.table) search.now.text.now result }
 {

@@ -10,7 +10,7 @@ ghost use Rattle.known.specs.Known.{mixed_in, all_mixed, bucket_of, FoundAs, Kno
 
 use kinds::{ROWS, Row, WORDS_A_ROW};
 use mixing::{BUCKETS, bucket_of, mix};
-use nodesets::same;
+use nodesets::{copy, same};
 
 // The buckets, and that of the empty set.
 pub const HEADS: usize = BUCKETS + 1;
@@ -86,7 +86,7 @@ fn store(sets: &mut [u64], r: usize, words: &[u64])
     ensures { Stored (length words.now) sets.old sets.new r words.now }
 {
     let at = WORDS_A_ROW * r;
-    sets[at..at + words.len()].copy_from_slice(words);
+    copy(&mut sets[at..at + words.len()], words);
 }
 
 impl Known {

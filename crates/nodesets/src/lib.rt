@@ -34,6 +34,16 @@ pub fn take_out(set: &mut [u64], i: usize) -> Node
     Node((64 * i + k as usize) as u16)
 }
 
+// No `copy_from_slice`, which asks the C library for memmove where it is not known that the two lists lie apart.
+pub fn copy(out: &mut [u64], set: &[u64])
+    requires { length out.old ≡ length set.now }
+    ensures { out.new ≡ set.now }
+{
+    for (i, word) in set.iter().enumerate() {
+        out[i] = *word;
+    }
+}
+
 // The nodes that both sets have.
 pub fn meet(out: &mut [u64], a: &[u64], b: &[u64])
     requires { (length out.old ≡ length a.now) × (length b.now ≡ length a.now) }

@@ -74,7 +74,12 @@ impl RowList {
     {
         let mut kept = 0;
         for i in 0..self.len {
-            let entry = self.entries[i];
+            // Part by part: a copy of the whole would wait for the two stores that put its parts there.
+            let Entry { row, from } = &self.entries[i];
+            let entry = Entry {
+                row: *row,
+                from: *from,
+            };
             kept = self.carry(search, kept, entry, p);
             if ends_here(search.table.marks[entry.row.0 as usize], false) {
                 self.len = kept;
@@ -99,7 +104,9 @@ impl RowList {
     }
 }
 
-// First, of the starts from `from` on: to the text's end, or until a match is known and no earlier start is left.
+// First, of the starts from `from` on: to the text's end, or until a match is known and no earlier start is left. Not inlined, so that
+// the list is on the stack only where it is used.
+#[inline(never)]
 pub fn read_on(search: &Search<'_>, from: usize) -> Option<(u32, u32)>
     requires { from ≤ length search.now.text.now }
     ensures { found_of result ≡ first_from (lent_table search.now.table) search.now.text.now from }

@@ -24,12 +24,9 @@ digits-enough (suc f) (suc g) n a b = go (ltb n 10) refl (digits-enough f g (n /
     go true e rec = refl
     go false e rec = let big : 10 ≤ n = ltb-false n 10 e in ap (λ (l : List ℕ). l ++ digit (n % 10)) (rec (omega arith) (omega arith))
 
-pub decimal_digit : (n : ℕ) → n < 10 → decimal n ≡ digit (n % 10)
+pub decimal_digit : (n : ℕ) → n < 10 → decimal n ≡ digit n
 unfolding decimal
-decimal_digit n h = ap (λ (t : Bool). elim t [ true ↦ digit n | false ↦ digits_of n (n / 10) ++ digit (n % 10) ]) (lt-ltb n 10 h) ∙ ap digit one
-  where
-    one : n ≡ n % 10
-    one = omega arith
+decimal_digit n h = ap (λ (t : Bool). elim t [ true ↦ digit n | false ↦ digits_of n (n / 10) ++ digit (n % 10) ]) (lt-ltb n 10 h)
 
 pub decimal-more : (n : ℕ) → 10 ≤ n → decimal n ≡ decimal (n / 10) ++ digit (n % 10)
 unfolding decimal

@@ -6,7 +6,7 @@ use native.Mathlib.Nat.{add-zero}
 use native.Mathlib.Omega.{arith}
 use lib.ListN.{length, take, drop, set, length-append}
 use lib.Seq.{sets, take-nil}
-use Rattle.writing.specs.Writing.{Room, Writes, Puts}
+use Rattle.writing.specs.Writing.{WritesFrom, Puts}
 use Rattle.writing.specs.declared.Page.{Page}
 
 sets-append : (xs ys old : List ℕ) (at : ℕ) → sets old at (xs ++ ys) ≡ sets (sets old at xs) (at + length xs) ys
@@ -20,17 +20,17 @@ pub nothing : {page : Page} → Puts page [] page
 nothing {page} = record { writes = λ _. record { buffer = refl; next = sym (add-zero page.at) }; same_reference = refl }
 
 -- one piece after another
+pub join-writes : {old mid new xs ys : List ℕ} {at m n : ℕ} → WritesFrom old at xs mid m → WritesFrom mid m ys new n → WritesFrom old at (xs ++ ys) new n
+join-writes {old} {mid} {new} {xs} {ys} {at} a b room =
+    let front = a (omega (arith, length-append xs ys)) in
+    let back = b (omega (arith, length-append xs ys, front.next)) in
+    record {
+      buffer = back.buffer ∙ ap₂ (λ (l : List ℕ) (n : ℕ). sets l n ys) front.buffer front.next ∙ sym (sets-append xs ys old at);
+      next = omega (arith, length-append xs ys, front.next, back.next);
+    }
+
 pub join : {old mid new : Page} {xs ys : List ℕ} → Puts old xs mid → Puts mid ys new → Puts old (xs ++ ys) new
-join {old} {mid} {new} {xs} {ys} a b = record { writes = both; same_reference = b.same_reference ∙ a.same_reference }
-  where
-    both : Room old.at (xs ++ ys) → Writes old.out.now old.at (xs ++ ys) new.out.now new.at
-    both room =
-        let front = a.writes (omega (arith, length-append xs ys)) in
-        let back = b.writes (omega (arith, length-append xs ys, front.next)) in
-        record {
-          buffer = back.buffer ∙ ap₂ (λ (l : List ℕ) (n : ℕ). sets l n ys) front.buffer front.next ∙ sym (sets-append xs ys old.out.now old.at);
-          next = omega (arith, length-append xs ys, front.next, back.next);
-        }
+join a b = record { writes = join-writes a.writes b.writes; same_reference = b.same_reference ∙ a.same_reference }
 
 -- What is left to write: the rest put on the page makes the whole text.
 pub record Left (old : Page) (text : List ℕ) (now : Page) (rest : List ℕ) : Type 0 where

@@ -12,7 +12,11 @@ pub record Writes (old : List ℕ) (at : ℕ) (text new : List ℕ) (r : ℕ) : 
   pub buffer : new ≡ sets old at text
   pub next : r ≡ at + length text
 
+-- where there is a number for the place after it, the text stands so
+abbrev pub WritesFrom : List ℕ → ℕ → List ℕ → List ℕ → ℕ → Type 0
+WritesFrom old at text new r = Room at text → Writes old at text new r
+
 -- the text was put on the page: where there is a number for the place after it, it stands from the page's place on
 pub record Puts (old : Page) (text : List ℕ) (new : Page) : Type 0 where
-  pub writes : Room old.at text → Writes old.out.now old.at text new.out.now new.at
+  pub writes : WritesFrom old.out.now old.at text new.out.now new.at
   pub same_reference : new.out.ghost_name ≡ old.out.ghost_name

@@ -4,7 +4,7 @@
 ghost use Rattle.std.specs.Prelude.{◌≡◌, true, ℕ, [], ◌∷◌, ◌+◌, ◌^◌, ◌<◌, ◌-◌, leb, length};
 ghost use Rattle.rules.specs.Answers.{given};
 ghost use Rattle.rules.specs.Listing.{decimal};
-ghost use Rattle.writing.specs.Writing.{Puts};
+ghost use Rattle.writing.specs.Writing.{WritesFrom, Puts};
 ghost use Rattle.writing.specs.Runs.{RunEnds};
 ghost use Rattle.answers.specs.Answers.{written_of, text_of};
 
@@ -12,6 +12,29 @@ use answers::Written;
 use kinds::Refusal;
 
 pub mod runs;
+
+// One byte at a place, and the place after it. The largest place stays as it is, and then nothing is promised.
+fn put_at(out: &mut [u8], at: usize, b: u8) -> usize
+    ensures { WritesFrom out.old at (b ∷ []) out.new result }
+{
+    if at < out.len() {
+        out[at] = b;
+        return at + 1;
+    }
+    at.saturating_add(1)
+}
+
+// A number in decimal from a place on, and the place after it: its tenth part first, then the last digit. The place is handed on and
+// back as a number, so that it stays in a register.
+fn put_digits(out: &mut [u8], at: usize, n: u32) -> usize
+    ensures { WritesFrom out.old at (decimal n) out.new result }
+{
+    if n < 10 {
+        return put_at(out, at, b'0' + n as u8);
+    }
+    let next = put_digits(out, at, n / 10);
+    put_at(out, next, b'0' + (n % 10) as u8)
+}
 
 // A lent buffer, and the place that the next byte goes to.
 #[derive(Drop)]
@@ -30,14 +53,11 @@ impl<'b> Page<'b> {
         Page { out, at: 0 }
     }
 
-    // One byte. The largest place stays as it is, and then nothing is promised.
+    // One byte.
     pub fn put(&mut self, b: u8)
         ensures { Puts self.old (b ∷ []) self.new }
     {
-        if self.at < self.out.len() {
-            self.out[self.at] = b;
-        }
-        self.at = self.at.saturating_add(1);
+        self.at = put_at(self.out, self.at, b);
     }
 
     // The bytes of a text.
@@ -49,14 +69,11 @@ impl<'b> Page<'b> {
         }
     }
 
-    // A number in decimal: its tenth part first, then the last digit.
+    // A number in decimal.
     pub fn put_number(&mut self, n: u32)
         ensures { Puts self.old (decimal n) self.new }
     {
-        if 10 <= n {
-            self.put_number(n / 10);
-        }
-        self.put(b'0' + (n % 10) as u8);
+        self.at = put_digits(self.out, self.at, n);
     }
 
     // What was written of a text that began at the buffer's start.

@@ -3,4 +3,4 @@ use Rattle.known.proofs.store.Goals as goal
 
 pub returns : goal.returns
 returns c =
-    store-row c.args.r c.requires.1 c.requires.0 c.copy_from_slice.ensures.after
+    store-row c.args.r c.requires.1 c.requires.0 c.copy.ensures
