@@ -34,7 +34,8 @@ pub fn take_out(set: &mut [u64], i: usize) -> Node
     Node((64 * i + k as usize) as u16)
 }
 
-// No `copy_from_slice`, which asks the C library for memmove where it is not known that the two lists lie apart.
+// The words of a set over those of another. No `copy_from_slice`, which asks the C library for memmove where it is not known that the
+// two lists lie apart.
 pub fn copy(out: &mut [u64], set: &[u64])
     requires { length out.old ≡ length set.now }
     ensures { out.new ≡ set.now }

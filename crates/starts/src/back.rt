@@ -33,6 +33,27 @@ impl LookBack {
     }
 }
 
+// How many starts there are. `list_back` says so too, but asks at each start for a place of the list.
+pub fn count_starts(search: &Search<'_>) -> usize
+    ensures { result ≡ length (starts (lent_table search.now.table) search.now.text.now) }
+{
+    // a copy, so that what it holds stays in registers
+    let search = *search;
+    let n = search.text.len();
+    let mut back = LookBack {
+        flags: flags_at_end(&search.table),
+        to: n,
+        spent: 0,
+    };
+    let mut count = 0;
+    for s in (0..n + 1).rev() {
+        if back.look(&search, s) {
+            count += 1;
+        }
+    }
+    count
+}
+
 // How many starts there are. A list that has room for them has them in its first places, the last start first.
 pub fn list_back(search: &Search<'_>, list: &mut [u32]) -> usize
     ensures value { result ≡ length (starts (lent_table search.now.table) search.now.text.now) }

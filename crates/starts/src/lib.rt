@@ -7,7 +7,7 @@ ghost use Rattle.table.specs.Lent.{lent_table};
 ghost use Rattle.answers.specs.Answers.{listed_of};
 
 use ahead::Search;
-use back::{list_back, list_starts};
+use back::{count_starts, list_starts};
 use kinds::Refusal;
 use table::{Checked, Lent};
 
@@ -20,7 +20,7 @@ pub fn starts(table: &Lent<'_>, text: &[u8], list: &mut [u32]) -> Result<u32, Re
 {
     let search = Search::of(&Checked::of(table, text)?);
     if list.len() <= text.len() {
-        let count = list_back(&search, &mut []);
+        let count = count_starts(&search);
         if list.len() < count {
             return Err(Refusal::FewPlaces(count as u32));
         }

@@ -17,20 +17,20 @@ use Rattle.starts.proofs.starts.Goals.{Joined-list-text, then-list-text+else-lis
 
 pub overflow_cast-result : goal.overflow_cast-result
 overflow_cast-result c = let S = c.of-search.result in
-    omega (arith, c.list_back-count.ensures.value, starts-most (lent_table S.table) S.text.now, S.passed.short)
+    omega (arith, c.count_starts-count.ensures, starts-most (lent_table S.table) S.text.now, S.passed.short)
 
 pub returns-then-list-count : goal.returns-then-list-count
 unfolding listed_in
 returns-then-list-count c =
     let S = c.of-search.result in
     let l = c.args.list.now in
-    ap (λ (k : ℕ). listed_of (Err (FewPlaces k)) l) c.list_back-count.ensures.value
-    ∙ starts-answered S c.in_ok-of.field-0 c.of-search.ensures c.in_ok-of.ensures l true (lt-ltb _ _ (omega (arith, c.list_back-count.ensures.value, c.if-list-count.true)))
+    ap (λ (k : ℕ). listed_of (Err (FewPlaces k)) l) c.count_starts-count.ensures
+    ∙ starts-answered S c.in_ok-of.field-0 c.of-search.ensures c.in_ok-of.ensures l true (lt-ltb _ _ (omega (arith, c.count_starts-count.ensures, c.if-list-count.true)))
 
 room : (c : Joined-list-text) → let S = c.of-search.result in length (starts (lent_table S.table) S.text.now) ≤ length c.args.list.now
 room c = let S = c.of-search.result in
     elim c.if-list-text.branch [
-      | then-list-text+else-list-count w ↦ omega (arith, w.list_back-count.ensures.value, w.if-list-count.false)
+      | then-list-text+else-list-count w ↦ omega (arith, w.count_starts-count.ensures, w.if-list-count.false)
       | else-list-text w ↦ omega (arith, starts-most (lent_table S.table) S.text.now, w.if-list-text.false, ap length c.of-search.ensures.1, ap length c.in_ok-of.ensures.1)
     ]
 
