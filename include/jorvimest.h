@@ -32,10 +32,10 @@ extern "C" {
 #endif
 
 /* The version, and the toolchain that it was made with, as `rt version` names it. */
-#define JORVIMEST_VERSION "0.0.3"
+#define JORVIMEST_VERSION "0.0.4"
 #define JORVIMEST_VERSION_MAJOR 0
 #define JORVIMEST_VERSION_MINOR 0
-#define JORVIMEST_VERSION_PATCH 3
+#define JORVIMEST_VERSION_PATCH 4
 #define JORVIMEST_TOOLCHAIN "rattle-kit-13f logic dac8208d650f15bf"
 
 /* Sizes: bytes of a pattern, groups open at once, nodes of a pattern, rows of a table, bytes of a text, at most. */

@@ -16,6 +16,17 @@ struct LookBack {
 }
 
 impl LookBack {
+    // At the text's end, ahead of any walk.
+    fn begin(search: &Search<'_>) -> LookBack
+        ensures { Pass (lent_table search.now.table) search.now.text.now result (length search.now.text.now + 1) }
+    {
+        LookBack {
+            flags: flags_at_end(&search.table),
+            to: search.text.len(),
+            spent: 0,
+        }
+    }
+
     // Whether a start has a match. Once the walks have read as much as new flags can cost, new flags are made for this place: so all
     // walks together read at most about twice the text for each row, and at most twice what trying each start would read.
     fn look(&mut self, search: &Search<'_>, s: usize) -> bool
@@ -40,11 +51,7 @@ pub fn count_starts(search: &Search<'_>) -> usize
     // a copy, so that what it holds stays in registers
     let search = *search;
     let n = search.text.len();
-    let mut back = LookBack {
-        flags: flags_at_end(&search.table),
-        to: n,
-        spent: 0,
-    };
+    let mut back = LookBack::begin(&search);
     let mut count = 0;
     for s in (0..n + 1).rev() {
         if back.look(&search, s) {
@@ -62,11 +69,7 @@ pub fn list_back(search: &Search<'_>, list: &mut [u32]) -> usize
     // a copy, so that what it holds stays in registers
     let search = *search;
     let n = search.text.len();
-    let mut back = LookBack {
-        flags: flags_at_end(&search.table),
-        to: n,
-        spent: 0,
-    };
+    let mut back = LookBack::begin(&search);
     let mut count = 0;
     for s in (0..n + 1).rev() {
         if back.look(&search, s) {

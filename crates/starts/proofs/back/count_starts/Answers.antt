@@ -3,26 +3,18 @@ use mathlib.Core.Bool.{true, false}
 use native.Mathlib.Omega.{arith}
 use lib.ListN.{length}
 use Rattle.table.specs.Lent.{lent_table}
-use Rattle.table.proofs.CheckLaws.{well}
 use Rattle.ahead.specs.Ahead.{starts_from}
-use Rattle.ahead.proofs.AheadLaws.{flags-end}
 use Rattle.ahead.proofs.PlaceLaws.{starts-all, starts_none}
 use Rattle.starts.proofs.StartsLaws.{starts-back, starts-few}
+use Rattle.starts.proofs.BackLaws.{come_down}
 use Rattle.starts.proofs.back.count_starts.Goals as goal
-
-pub flags_at_end-requires : goal.flags_at_end-requires
-flags_at_end-requires c = well c.args.search.now.passed
 
 pub loop-s-init : goal.loop-s-init
 loop-s-init c = let S = c.args.search.now in
-    record {
-      pass = record { come = omega arith; inside = omega arith; cheap = omega arith; flagged = flags-end S.text.now c.flags_at_end.ensures };
-      counted = sym (ap length (starts_none (lent_table S.table) S.text.now));
-    }
+    record { pass = c.begin-back.ensures; counted = sym (ap length (starts_none (lent_table S.table) S.text.now)) }
 
 pub look-requires : goal.look-requires
-look-requires c = let P = c.loop-s.invariant.pass in
-    (record { come = omega arith; inside = P.inside; cheap = P.cheap; flagged = P.flagged }, omega arith)
+look-requires c = come_down c.loop-s.invariant.pass (omega arith)
 
 pub overflow_add-count : goal.overflow_add-count
 overflow_add-count c = let S = c.args.search.now in

@@ -6,29 +6,19 @@ use native.Mathlib.Omega.{arith}
 use lib.ListN.{length, set, drop, length-reverse}
 use Rattle.table.specs.Lent.{lent_table}
 use Rattle.ahead.specs.Ahead.{starts_from}
-use Rattle.ahead.proofs.AheadLaws.{flags-end}
 use Rattle.ahead.proofs.PlaceLaws.{starts-all, starts_none}
 use Rattle.starts.proofs.StartsLaws.{starts-back, starts-few}
-use Rattle.starts.proofs.BackLaws.{set_next}
+use Rattle.starts.proofs.BackLaws.{set_next, come_down}
 use Rattle.starts.proofs.back.list_back.Goals as goal
-use Rattle.table.proofs.CheckLaws.{well}
 use Rattle.starts.proofs.back.list_back.Goals.{Then-look, then-count-list, else-count-list}
-
-pub flags_at_end-requires : goal.flags_at_end-requires
-flags_at_end-requires c = well c.args.search.now.passed
 
 pub loop-s-init : goal.loop-s-init
 loop-s-init c = let S = c.args.search.now in
     let e = starts_none (lent_table S.table) S.text.now in
-    record {
-      pass = record { come = omega arith; inside = omega arith; cheap = omega arith; flagged = flags-end S.text.now c.flags_at_end.ensures };
-      counted = sym (ap length e);
-      listed = λ h. sym (ap (λ (l : List ℕ). reverse l ++ c.args.list.now) e);
-    }
+    record { pass = c.begin-back.ensures; counted = sym (ap length e); listed = λ h. sym (ap (λ (l : List ℕ). reverse l ++ c.args.list.now) e) }
 
 pub look-requires : goal.look-requires
-look-requires c = let P = c.loop-s.invariant.pass in
-    (record { come = omega arith; inside = P.inside; cheap = P.cheap; flagged = P.flagged }, omega arith)
+look-requires c = come_down c.loop-s.invariant.pass (omega arith)
 
 -- the starts from s - 1 on, at a start
 one : (c : Then-look) → let S = c.args.search.now in
